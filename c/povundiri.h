@@ -57,8 +57,8 @@
 extern "C" {
 #endif
 
-/* A segment, a recorder, a sum, or nothing: `held` says whether there is one. It begins as zeros, and is zeros again when it is closed, joined
- * or dropped. */
+/* A segment, a recorder, a sum, a follower, or nothing: `held` says whether there is one. It begins as zeros, and is zeros again when it is
+ * closed, joined or dropped. */
 struct povundiri_handle {
     bool held;
     void *at;
@@ -130,7 +130,7 @@ enum povundiri_status {
     POVUNDIRI_EMPTY = 3,         /* the handle holds nothing: it was never filled, or is closed, joined or dropped */
     POVUNDIRI_NOT_EMPTY = 4,     /* the handle that is to be filled holds something */
     POVUNDIRI_OTHER_KIND = 5,    /* the handle is of another kind than the call needs: a recorder's instead of a segment's, and so on */
-    POVUNDIRI_OTHER_SEGMENT = 6, /* the recorder is of another segment */
+    POVUNDIRI_OTHER_SEGMENT = 6, /* the recorder is of another segment; of a follower: the image is */
     POVUNDIRI_SHORT = 7,         /* the array is too short: the length that it needs is returned, and nothing was taken */
     POVUNDIRI_UNKNOWN = 8,       /* no call returned such a histogram to this recorder */
     POVUNDIRI_NO_CURSOR = 9,     /* the segment has no such shared cursor */
@@ -146,6 +146,12 @@ enum povundiri_status {
     POVUNDIRI_BAD_PREFIX = 18,    /* no name of a metric may begin with the prefix */
     POVUNDIRI_TOO_MANY = 19,      /* a total of the sum would not fit: units, marks, redundant counts or images 64 bits, amounts 128 */
     POVUNDIRI_BAD_TOTALS = 20,    /* the text is no totals; of a sum that is to be written: it is not well formed, which no call makes it */
+    POVUNDIRI_FELL = 21,          /* of a follower: a count is less than what it has noted, or a histogram is gone or has another spec */
+    POVUNDIRI_COSTS_MORE = 22,    /* of a follower: what came costs more units than the caller allows */
+    POVUNDIRI_NOT_OWNER = 23,     /* the folder is another user's: nothing was done */
+    POVUNDIRI_FOLDER_IN_USE = 24, /* the folder is neither empty nor a recording's: nothing is changed in it */
+    POVUNDIRI_NO_RECORDING = 25,  /* the folder is no recording's */
+    POVUNDIRI_BAD_OPTIONS = 26,   /* the options have something that this library does not know, or that may not be */
 
     /* Why a call is refused. */
     POVUNDIRI_REFUSED_BAD_NAME = 101,
@@ -314,8 +320,8 @@ inline uint32_t povundiri_close(struct povundiri_handle *segment, uint64_t *word
     return povundiri_proved_close(segment, none, (uint64_t *)povundiri_address(words), length, needed != NULL ? needed : &own);
 }
 
-/* Gives up a segment, a recorder or a sum; then its handle is empty. What a recorder counted stays in the segment, which does not get its
- * other units back. A segment ends, without an image, when it and all its recorders are gone; then a room is the caller's again.
+/* Gives up a segment, a recorder, a sum or a follower; then its handle is empty. What a recorder counted stays in the segment, which does
+ * not get its other units back. A segment ends, without an image, when it and all its recorders are gone; then a room is the caller's again.
  * Statuses: NULL, EMPTY.
  * Keep: pointers; handles; turns; process. */
 inline uint32_t povundiri_drop(struct povundiri_handle *handle) {

@@ -30,6 +30,7 @@
 
 #include <algorithm>
 #include <atomic>
+#include <chrono>
 #include <cstddef>
 #include <cstdint>
 #include <limits>
@@ -166,6 +167,14 @@ public:
         if (status == Status::Done) return;
         raise(status, std::string("add, value ").append(std::to_string(value.get())).append(", count ").append(std::to_string(count)));
     }
+
+    // A time needs a unit, which a histogram does not have.
+    template <typename Ticks, typename Period>
+    bool add(Hist, std::chrono::duration<Ticks, Period>, std::uint32_t = 1) = delete;  // ticks<std::chrono::microseconds>(time)
+    template <typename Ticks, typename Period>
+    Status try_add(Hist, std::chrono::duration<Ticks, Period>, std::uint32_t = 1) = delete;  // ticks<std::chrono::microseconds>(time)
+    template <typename Ticks, typename Period>
+    void add_or_throw(Hist, std::chrono::duration<Ticks, Period>, std::uint32_t = 1) = delete;  // ticks<std::chrono::microseconds>(time)
 
     // Adds units of values, in order, and then an amount to the sum (povundiri_batch). False if not all was counted: then only the items
     // before the first that found no room, as many as 'try_batch' puts into 'added', and nothing of the sum.
@@ -341,6 +350,7 @@ public:
     }
 
 private:
+    friend class Follower;
     friend class Segment;
 
     // The tag of an empty recorder. No histogram has it.
@@ -406,6 +416,70 @@ inline void Recorder::reset() noexcept {
     const std::uint64_t lent = std::min<std::uint64_t>(left, std::max<std::uint64_t>(wanted, std::min(lease_, left / 2)));
     return povundiri_lend(&state_->segment, &handle_, static_cast<std::uint32_t>(lent)) == POVUNDIRI_DONE;
 }
+
+// ---- Followers ----
+
+// What was merged of one segment so far, by its images, while others record into it (povundiri_follower_merge). It is used by one thread at a
+// time. One that is new, or was moved from, has merged nothing; images that read as more than 'most_keys' keys are TooManyKeys.
+class Follower {
+public:
+    explicit Follower(std::uint64_t most_keys) noexcept : most_keys_(most_keys) {}
+    Follower(Follower&& other) noexcept : handle_(std::exchange(other.handle_, povundiri_handle{})), most_keys_(other.most_keys_) {}
+    Follower& operator=(Follower&& other) noexcept {
+        if (this != &other) {
+            reset();
+            handle_ = std::exchange(other.handle_, povundiri_handle{});
+            most_keys_ = other.most_keys_;
+        }
+        return *this;
+    }
+    ~Follower() { reset(); }
+
+    // Makes 'follower' one that has noted what deltas took of an image, so that it adds of that what a merge would
+    // (povundiri_follower_of_marks). On any but Done it is unchanged.
+    [[nodiscard]] static Status try_of_marks(Span<const std::uint64_t> words, std::uint64_t most_keys, Follower& follower) noexcept {
+        Follower made(most_keys);
+        const auto status = static_cast<Status>(povundiri_follower_of_marks(most_keys, words.data(), words.size(), &made.handle_));
+        if (status == Status::Done) follower = std::move(made);
+        return status;
+    }
+
+    // Begins again: nothing is noted, and the next image may be of any segment.
+    void reset() noexcept { povundiri_drop(&handle_); }
+
+    // Adds what an image has above what is noted, if that costs at most so many units; the recorder borrows them. A status that comes with a
+    // 'report.name' is that of a histogram which was left out, until a later call adds it; the others are added.
+    [[nodiscard]] Status try_merge(Recorder& recorder, Span<const std::uint64_t> words, std::uint64_t most, MergeReport& report) noexcept {
+        report = {};
+        report.size = sizeof report;
+        const Status usable = recorder.state_.usable();
+        if (usable != Status::Done) return usable;
+        const auto call = [&] { return povundiri_follower_merge(&handle_, &recorder.handle_, words.data(), words.size(), most, &report); };
+        const Status status = with(call);
+        return status == Status::RefusedNoUnits && report.name[0] == '\0' && recorder.borrow(report.cost) ? with(call) : status;
+    }
+
+    // Notes an image, adds nothing, and returns the units that it has above what was noted.
+    [[nodiscard]] Status try_skip(Span<const std::uint64_t> words, std::uint64_t& units) noexcept {
+        return with([&] { return povundiri_follower_skip(&handle_, words.data(), words.size(), &units); });
+    }
+
+private:
+    friend class Recording;
+
+    // It is made at the first call that needs it.
+    template <typename Call>
+    Status with(const Call& call) noexcept {
+        if (!handle_.held) {
+            const auto status = static_cast<Status>(povundiri_follower_new(most_keys_, &handle_));
+            if (status != Status::Done) return status;
+        }
+        return static_cast<Status>(call());
+    }
+
+    povundiri_handle handle_{};
+    std::uint64_t most_keys_;
+};
 
 // ---- Segments ----
 
@@ -588,7 +662,7 @@ private:
 // What 'open' has done, and the segment.
 struct Opened {
     Segment segment;
-    povundiri_opened what{};
+    povundiri_opened what = POVUNDIRI_OPENED;
 
     Outcome outcome() const noexcept { return static_cast<Outcome>(what.outcome); }
     // Why the image in the file was not adopted; else Done.
@@ -604,7 +678,7 @@ struct Opened {
 inline std::error_code Segment::try_open(const char* path, const Shape& shape, Policy policy, Opened& opened,
                                          const povundiri_file_options& options) noexcept {
     if (opened.segment) return Status::NotEmpty;
-    if ((options.flags & POVUNDIRI_FILE_KEEP_ON_FORK) != 0) return std::make_error_code(std::errc::invalid_argument);
+    if ((options.flags & POVUNDIRI_FILE_KEEP_ON_FORK) != 0) return Status::BadOptions;
     detail::Shared state = detail::Shared::made();
     if (!state) return Status::NoMemory;
     const std::uint32_t status =

@@ -21,9 +21,6 @@
 /* A segment's file has whole units of 16 bytes. */
 enum { UNIT = 16, MOST_CURSORS = 8 };
 
-/* The flag of a full segment. */
-enum { FULL = 2 };
-
 /* For how long a lock is tried, and how often; how many bytes are reserved or read by one call; how many names are tried. */
 enum { MOST_MILLISECONDS = 100, NAP_NANOSECONDS = 2000000, PIECE = 1 << 18, BLOCK = 4096, MOST_NAMES = 100000 };
 
@@ -255,6 +252,12 @@ bool povundiri_parts_are_known(const void *options, size_t first, size_t known) 
     return size >= first && (size <= known || are_zeros((const char *)options + known, size - known));
 }
 
+bool povundiri_parts_is_mode(mode_t mode, unsigned flags) {
+    if (mode == 0) return true;
+    if ((mode & ~(mode_t)0775) != 0 || (mode & 0600) != 0600) return false;
+    return (mode & S_IWGRP) == 0 || (flags & POVUNDIRI_FILE_GROUP_WRITES) != 0;
+}
+
 static int request_of(struct request *request, const char *path, const struct povundiri_file_options *options) {
     const mode_t mode = options == NULL ? 0 : options->mode;
     request->folder = AT_FDCWD;
@@ -264,8 +267,7 @@ static int request_of(struct request *request, const char *path, const struct po
     request->mode = mode == 0 ? 0600 : mode;
     if (options != NULL && !povundiri_parts_are_known(options, sizeof *options, sizeof *options)) return EINVAL;
     if (path == NULL || (request->flags & ~(unsigned)ALL_FLAGS) != 0) return EINVAL;
-    if ((request->mode & ~(mode_t)0775) != 0 || (request->mode & 0600) != 0600) return EINVAL;
-    return (request->mode & S_IWGRP) != 0 && (request->flags & POVUNDIRI_FILE_GROUP_WRITES) == 0 ? EINVAL : 0;
+    return povundiri_parts_is_mode(mode, request->flags) ? 0 : EINVAL;
 }
 
 static int status_at(const struct request *request, struct stat *about) {
@@ -621,7 +623,7 @@ static void describe(struct povundiri_opened *opened, const uint64_t *image, con
     opened->shape = shape;
     opened->other_shape =
         shape.size != asked->size || shape.page != asked->page || shape.id != asked->id || shape.version != asked->version;
-    opened->spent = (image[FLAGS_AT] & FULL) != 0;
+    opened->spent = (image[FLAGS_AT] & FLAG_FULL) != 0;
 }
 
 static uint32_t adopt(const struct task *task, const uint64_t *words, size_t count) {
@@ -718,29 +720,35 @@ static uint32_t open_segment(struct task *task, struct povundiri_shape shape, st
     return status;
 }
 
+/* Whether the caller has room for the first layout, which ends where the struct does, since there is no other yet. Nothing is told in it. */
+static bool begins(struct povundiri_opened *opened) {
+    const size_t size = opened->size;
+    if (size != 0 && size < sizeof *opened) return false;
+    memset(opened, 0, sizeof *opened);
+    opened->size = size;
+    return true;
+}
+
 uint32_t povundiri_open(const char *path, struct povundiri_shape shape, enum povundiri_policy policy,
                         const struct povundiri_file_options *options, struct povundiri_file *file, struct povundiri_handle *segment,
                         struct povundiri_opened *opened) {
     struct task task;
-    int fault;
     if (path == NULL || file == NULL || segment == NULL || opened == NULL) return POVUNDIRI_NULL;
-    memset(opened, 0, sizeof *opened);
+    if (!begins(opened)) return POVUNDIRI_SHORT;
     if (file->mapping != NULL || segment->held) return POVUNDIRI_NOT_EMPTY;
     if (!is_policy(policy)) return POVUNDIRI_BAD_KIND;
-    fault = request_of(&task.request, path, options);
-    if (fault != 0) return system_fault(opened, fault);
+    if (request_of(&task.request, path, options) != 0) return POVUNDIRI_BAD_OPTIONS;
     task.policy = policy;
     task.opened = opened;
     return open_segment(&task, shape, file, segment);
 }
 
-uint32_t povundiri_parts_open_in(int folder, const char *name, struct povundiri_shape shape, unsigned flags, struct povundiri_file *file,
-                                 struct povundiri_handle *segment, struct povundiri_opened *opened) {
-    const struct povundiri_file_options options = {sizeof options, flags, 0};
+uint32_t povundiri_parts_open_in(int folder, const char *name, struct povundiri_shape shape, unsigned flags, mode_t mode,
+                                 struct povundiri_file *file, struct povundiri_handle *segment, struct povundiri_opened *opened) {
+    const struct povundiri_file_options options = {sizeof options, flags, mode};
     struct task task;
     memset(opened, 0, sizeof *opened);
-    opened->fault = request_of(&task.request, name != NULL ? name : ".", &options);
-    if (opened->fault != 0) return POVUNDIRI_SYSTEM;
+    if (request_of(&task.request, name != NULL ? name : ".", &options) != 0) return POVUNDIRI_BAD_OPTIONS;
     task.request.folder = folder;
     task.request.is_unnamed = name == NULL;
     task.policy = POVUNDIRI_ADOPT_OR_FAIL;

@@ -6,7 +6,7 @@
  *
  *     struct povundiri_file file = {0};
  *     struct povundiri_handle segment = {0};
- *     struct povundiri_opened opened;
+ *     struct povundiri_opened opened = POVUNDIRI_OPENED;
  *     uint32_t status = povundiri_open("latency.seg", shape, POVUNDIRI_ADOPT_OR_SET_ASIDE, NULL, &file, &segment, &opened);
  *     if (status == POVUNDIRI_SYSTEM) ..                  the system's fault: opened.fault is its number (errno.h)
  *     else if (status != POVUNDIRI_DONE) ..               the library's: povundiri_status_text(status)
@@ -72,7 +72,7 @@ enum povundiri_file_flag {
 
 /* How a file is opened. It begins as POVUNDIRI_FILE_OPTIONS, which is what is usual, as is a null in its place.
  *   size    of this struct, as the caller knows it; 0: as it was first. If it is less than that, or a member that is not known here is not 0,
- *           the options are refused (EINVAL)
+ *           the options are refused: povundiri_open returns POVUNDIRI_BAD_OPTIONS, and povundiri_file_open EINVAL
  *   flags   some of povundiri_file_flag
  *   mode    of a file that is made, less the umask: 0600 and more of 0777, or 0 for 0600. Write for the group asks for
  *           POVUNDIRI_FILE_GROUP_WRITES; write for others may not be. */
@@ -155,7 +155,9 @@ enum povundiri_outcome {
 /* The bytes of the longest path, with its zero byte. */
 #define POVUNDIRI_PATH_BYTES 4096
 
-/* What povundiri_open has done.
+/* What povundiri_open has done. It begins as POVUNDIRI_OPENED.
+ *   size         set by the caller: how many bytes the struct has; 0 means the first layout, which ends with `set_aside`. More than the
+ *                library knows are left as they are
  *   outcome      what happened
  *   fault        the system's fault (errno.h) if the status is POVUNDIRI_SYSTEM, else 0
  *   refused      why the image in the file was not adopted, as povundiri_adopt says; else POVUNDIRI_DONE
@@ -166,6 +168,7 @@ enum povundiri_outcome {
  *   set_aside    the new name of the file that was set aside; else empty. It is set also if a later step of the call failed, such as on a
  *                full device: then the next call finds no file, or a new one. */
 struct povundiri_opened {
+    size_t size;
     enum povundiri_outcome outcome;
     int fault;
     uint32_t refused;
@@ -175,6 +178,8 @@ struct povundiri_opened {
     uint32_t units;
     char set_aside[POVUNDIRI_PATH_BYTES];
 };
+
+#define POVUNDIRI_OPENED {sizeof(struct povundiri_opened), POVUNDIRI_NOTHING, 0, 0, {0, 0, 0, 0, 0}, false, false, 0, {0}}
 
 /* Opens a file for a segment of this shape, and adopts the segment in it, or makes one. An older segment keeps its own size, page, id and
  * version, whatever was asked for. `options` may be null.
@@ -190,6 +195,8 @@ struct povundiri_opened {
  *   POVUNDIRI_SYSTEM   opened->fault says what: as for povundiri_file_open, of renaming, or ENAMETOOLONG: no name for what is set aside
  *                      fits. EBUSY also if another process was faster to make the new file.
  *   POVUNDIRI_NULL, POVUNDIRI_NOT_EMPTY (`segment` or `file`), POVUNDIRI_BAD_KIND (no such policy)
+ *   POVUNDIRI_SHORT         opened->size is not 0, and less than that of the first layout: then `opened` is unchanged as well
+ *   POVUNDIRI_BAD_OPTIONS   a size, a flag or a mode of the options is not valid
  *   POVUNDIRI_OPEN_.., POVUNDIRI_NO_MEMORY   as for povundiri_create_in
  *   POVUNDIRI_ADOPT_.., POVUNDIRI_IMAGE_..   as for povundiri_adopt_in: refused, and not set aside: one file is set aside in a call, and
  *                                            another process was faster with the next

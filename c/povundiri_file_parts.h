@@ -11,16 +11,20 @@
  * the known ones the rest is zeros. */
 bool povundiri_parts_are_known(const void *options, size_t first, size_t known);
 
+/* Whether a file may be made with this mode, 0 for the usual one, where the options have these flags. */
+bool povundiri_parts_is_mode(mode_t mode, unsigned flags);
+
 /* Reads `bytes` bytes from there on, or those up to the end of the file, and says how many. 0, or the system's fault. */
 int povundiri_parts_read(int descriptor, void *to, size_t bytes, off_t at, size_t *got);
 
 /* Closes the descriptor of an open file. Its memory stays, and so does its lock where a mapping keeps that (`keeps_locks` of a place). */
 void povundiri_parts_close_descriptor(struct povundiri_file *file);
 
-/* povundiri_open of a name in a folder, with these flags and POVUNDIRI_ADOPT_OR_FAIL. With a null a new segment is made in a file that has no
+/* povundiri_open of a name in a folder, with these flags, this mode and POVUNDIRI_ADOPT_OR_FAIL. With a null a new segment is made in a file that has no
  * name yet (O_TMPFILE): it has its lock from its first moment on. */
-uint32_t povundiri_parts_open_in(int folder, const char *name, struct povundiri_shape shape, unsigned flags, struct povundiri_file *file,
-                                 struct povundiri_handle *segment, struct povundiri_opened *opened) POVUNDIRI_CHECKED;
+uint32_t povundiri_parts_open_in(int folder, const char *name, struct povundiri_shape shape, unsigned flags, mode_t mode,
+                                 struct povundiri_file *file, struct povundiri_handle *segment,
+                                 struct povundiri_opened *opened) POVUNDIRI_CHECKED;
 
 /* Gives it a name. 0, or the system's fault; EBADF: its descriptor is not open any more. */
 int povundiri_parts_name(const struct povundiri_file *file, int folder, const char *name) POVUNDIRI_CHECKED;

@@ -1,5 +1,5 @@
-/* The folder of recordings (povundiri_recording.h), for programs that read it or keep it small. Any process of the same user may do that,
- * also while others record.
+/* The folder of recordings (povundiri_recording.h), for programs that read it or keep it small. Any process of its owner may do that, also
+ * while others record; root may fold it, and who may read its files may read it.
  *
  *     recording           a regular file without bytes, which says what the folder is. Where it is missing, a folder is a recording's all the
  *                         same if it has a segment, a damaged file or totals, and nothing but these files and those of `history`
@@ -41,9 +41,10 @@ extern "C" {
  * `left`, which may be null, is how many segments were left out because their headers have a fault or they are of version 1.
  *
  *   POVUNDIRI_NULL, POVUNDIRI_NOT_EMPTY (`sums`), POVUNDIRI_NO_MEMORY, POVUNDIRI_IMAGE_NO_MEMORY, POVUNDIRI_TOO_MANY
- *   POVUNDIRI_BAD_TOTALS   the file `totals` is damaged
- *   POVUNDIRI_BUSY         all sixteen times a fold ended or a segment went away meanwhile: try again
- *   POVUNDIRI_SYSTEM       *fault is the system's (errno.h), EINVAL also of a folder that is no recording's; else *fault is 0
+ *   POVUNDIRI_NO_RECORDING   the folder is no recording's
+ *   POVUNDIRI_BAD_TOTALS     the file `totals` is damaged
+ *   POVUNDIRI_BUSY           all sixteen times a fold ended or a segment went away meanwhile: try again
+ *   POVUNDIRI_SYSTEM         *fault is the system's (errno.h); else *fault is 0
  * On any but DONE `sums` holds nothing.
  * Keep: pointers; handles: `sums` begins as zeros; process. */
 uint32_t povundiri_folder_sums(const char *folder, struct povundiri_handle *sums, uint64_t *left, int *fault) POVUNDIRI_CHECKED;
@@ -53,14 +54,17 @@ uint32_t povundiri_folder_sums(const char *folder, struct povundiri_handle *sums
  * nothing that is in them, and nothing is counted twice. `folded`, which may be null, is how many were added, also on a fault, if some were
  * before it: 256 are added at once, or as many as the process may open, each of them open until it is removed, and then the next ones. So
  * if the process may open fewer, its other threads can open nothing meanwhile.
+ * What it makes belongs to the owner and the group of the folder, and has the mode of `recording`, whoever of the two folds.
  * A segment whose header has a fault, that may not be read, or with which a total would not fit, stays. Of one whose list of records is
  * damaged, what can be read is added, as in a report.
  *
  *   POVUNDIRI_NULL, POVUNDIRI_NO_MEMORY, POVUNDIRI_IMAGE_NO_MEMORY
- *   POVUNDIRI_BAD_TOTALS   the file `totals` is damaged: nothing was done
- *   POVUNDIRI_BUSY         somebody else folds
- *   POVUNDIRI_SYSTEM       *fault is the system's (errno.h), EINVAL also of a folder that is no recording's, EMFILE if the process may not
- *                          open four files, EFBIG if it may not write totals of that length; else *fault is 0
+ *   POVUNDIRI_NOT_OWNER      the folder is another user's, and this is not root: nothing was done
+ *   POVUNDIRI_NO_RECORDING   the folder is no recording's
+ *   POVUNDIRI_BAD_TOTALS     the file `totals` is damaged: nothing was done
+ *   POVUNDIRI_BUSY           somebody else folds
+ *   POVUNDIRI_SYSTEM         *fault is the system's (errno.h), EMFILE if the process may not open four files, EFBIG if it may not write
+ *                            totals of that length; else *fault is 0
  * Keep: pointers; process. */
 uint32_t povundiri_folder_fold(const char *folder, uint64_t *folded, int *fault) POVUNDIRI_CHECKED;
 

@@ -1,4 +1,4 @@
-/* What povundiri_folder.c, povundiri_owned.c and povundiri_recording.c have in common. It is not installed. */
+/* What povundiri_folder.c has in common with the files of folds and of recordings. It is not installed. */
 #ifndef POVUNDIRI_FOLDER_PARTS_H
 #define POVUNDIRI_FOLDER_PARTS_H
 
@@ -10,6 +10,12 @@
 
 /* The most bytes of a segment's file: its words, the one before them and those of eight cursors, in whole units of 16 bytes. */
 enum { MOST_BYTES = WORD * MOST_WORDS + 80, LONGEST_NAME = 64 };
+
+/* Faults of this library, beside those of the system, which are above 0. */
+enum { FAULT_FOLDER_IN_USE = -1, FAULT_NO_RECORDING = -2, FAULT_NOT_OWNER = -3 };
+
+/* The status of a fault. On any but POVUNDIRI_SYSTEM *fault is 0 then. */
+uint32_t povundiri_parts_status(int *fault);
 
 /* A descriptor, which a child of fork does not keep: with it, it would keep a lock. */
 struct povundiri_held {
@@ -59,6 +65,13 @@ int povundiri_parts_open(struct povundiri_held *held, int folder, const char *na
 int povundiri_parts_open_link(struct povundiri_held *held, int folder, const char *name, int flags);
 int povundiri_parts_open_folder(struct povundiri_held *held, const char *path);
 
+/* Makes a file in a folder, and hands it over as povundiri_parts_hand_over does. EEXIST if there is one. */
+int povundiri_parts_make(struct povundiri_held *held, int folder, const char *name, int flags, mode_t mode);
+
+/* Hands a file that this process has made over to the owner of the folder, if this is uid 0, and to the folder's group, if this user may. 0, or the
+ * system's fault. */
+int povundiri_parts_hand_over(int descriptor, int folder);
+
 /* The same file by another descriptor. */
 int povundiri_parts_copy(struct povundiri_held *held, int descriptor);
 
@@ -85,14 +98,17 @@ int povundiri_parts_each(int folder, povundiri_each_name *call, void *context);
 /* Whether the folder is marked as a recording's. 0, or the system's fault. */
 int povundiri_parts_mark(int folder, bool *is_marked);
 
-/* Marks it, if it is empty or a recording's. EEXIST if it is another one. */
-int povundiri_parts_make_mark(int folder);
+/* Marks it by a file of this mode, if it is empty or a recording's. FAULT_FOLDER_IN_USE if it is another one. */
+int povundiri_parts_make_mark(int folder, mode_t mode);
 
 /* `numbers` are for free(), also after a fault. */
 int povundiri_parts_list(int folder, struct povundiri_listing *listing);
 
 /* Whether it is a recording's folder: it is marked, or has something of one and nothing else. */
 bool povundiri_parts_is_recordings(const struct povundiri_listing *listing);
+
+/* How many bytes its files have, all together. */
+int povundiri_parts_bytes(int folder, uint64_t *bytes);
 
 /* povundiri_folder_count, _sums and _fold of an open folder. */
 int povundiri_parts_count(int folder, uint64_t *segments);
@@ -103,6 +119,9 @@ uint32_t povundiri_parts_fold(int folder, uint64_t *folded, int *fault);
 int povundiri_parts_totals(int folder, struct povundiri_totals_file *totals);
 void povundiri_parts_free(struct povundiri_totals_file *totals);
 bool povundiri_parts_names(const struct povundiri_totals_file *totals, uint64_t number, uint64_t id);
+
+/* The sum of the totals, in an empty handle. */
+uint32_t povundiri_parts_begin_sums(const struct povundiri_totals_file *totals, struct povundiri_handle *sums);
 
 /* Reads the image of a final segment. `bytes` are for free(), also after a fault. */
 int povundiri_parts_image(int descriptor, off_t length, struct povundiri_image *image);
@@ -117,7 +136,9 @@ struct povundiri_place {
     char *path;                 /* absolute, for free() */
     struct povundiri_held held; /* the folder, if it is open; the process may have closed it since */
     bool is_open;
-    dev_t device; /* with the inode, of the folder */
+    unsigned flags; /* of povundiri_file_flag: whom it may belong to, and who may write there */
+    mode_t mode;    /* of its files */
+    dev_t device;   /* with the inode, of the folder */
     ino_t inode;
     bool keeps_locks;  /* the mapping of a file there keeps its lock, without a descriptor */
     bool names_spares; /* a spare has a name, since the system has no others, or does not name them later */
@@ -145,8 +166,9 @@ struct povundiri_found {
 /* Watches for forks. False if there is no memory for it. */
 bool povundiri_folder_watch(void);
 
-/* Makes the folder, if it is not there, marks it as a recording's, if it is empty or is one without a mark, opens it, and removes old spares
- * that nobody holds; EEXIST if it is neither empty nor a recording's, and then nothing is changed. 0, or the system's fault, and then
+/* With the flags and the mode of `place`, makes the folder, if it is not there, marks it as a recording's, if it is empty or is one without a mark, opens it, and removes old spares
+ * that nobody holds; FAULT_FOLDER_IN_USE if it is neither empty nor a recording's, FAULT_NOT_OWNER or EPERM if it is another user's or others
+ * may write there, and then nothing is changed. 0, or a fault, and then
  * `place` has no path. */
 int povundiri_place_enter(struct povundiri_place *place, const char *folder);
 

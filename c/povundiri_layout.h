@@ -11,4 +11,7 @@ enum { SEGMENT_COOKIE = 0x408305DC };
 /* The words of a header. */
 enum { COOKIE_AT = 0, VERSION_AT = 1, SIZE_AT = 2, PAGE_AT = 3, ID_AT = 4, FLAGS_AT = 6 };
 
+/* The flag of a full segment. */
+enum { FLAG_FULL = 2 };
+
 #endif

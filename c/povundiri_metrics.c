@@ -15,6 +15,10 @@ static bool is_same_spec(const struct povundiri_metric *metric, struct povundiri
            (metric->spec.minimum == spec.minimum && metric->spec.maximum == spec.maximum && metric->spec.buckets == spec.buckets);
 }
 
+bool povundiri_metrics_have_one_name(const struct povundiri_metric *one, const struct povundiri_metric *other) {
+    return one->length == other->length && memcmp(one->name, other->name, one->length) == 0;
+}
+
 bool povundiri_metrics_find(const struct povundiri_metrics *metrics, const char *name, size_t length, struct povundiri_spec spec,
                             const uint32_t *values, size_t count, size_t *metric) {
     size_t i;
@@ -50,20 +54,28 @@ static uint32_t judge(struct povundiri_shape shape, struct povundiri_metric *met
     return status;
 }
 
+static void end(struct povundiri_metric *metric) {
+    if (metric == NULL) return;
+    free(metric->name);
+    free(metric->values);
+    free(metric->distinct);
+    free(metric);
+}
+
 /* Puts a metric after the others. */
 static uint32_t put(struct povundiri_metrics *metrics, const char *name, size_t length, struct povundiri_spec spec, const uint32_t *values,
                     size_t count) {
     struct povundiri_metric **const all = (struct povundiri_metric **)realloc(metrics->all, (metrics->count + 1) * sizeof *all);
     struct povundiri_metric *const metric = (struct povundiri_metric *)calloc(1, sizeof *metric);
+    const bool is_bounded = spec.kind == POVUNDIRI_SPARSE && metrics->most_values <= UINT32_MAX;
     if (all != NULL) metrics->all = all;
     if (metric != NULL) {
         metric->name = (char *)malloc(length + 1);
         metric->values = (uint32_t *)malloc((count + 1) * sizeof *values);
+        if (is_bounded) metric->distinct = povundiri_distinct_new(metrics->most_values);
     }
-    if (all == NULL || metric == NULL || metric->name == NULL || metric->values == NULL) {
-        if (metric != NULL) free(metric->name);
-        if (metric != NULL) free(metric->values);
-        free(metric);
+    if (all == NULL || metric == NULL || metric->name == NULL || metric->values == NULL || (is_bounded && metric->distinct == NULL)) {
+        end(metric);
         return POVUNDIRI_NO_MEMORY;
     }
     if (length > 0) memcpy(metric->name, name, length);
@@ -88,9 +100,7 @@ uint32_t povundiri_metrics_add(struct povundiri_metrics *metrics, struct povundi
 void povundiri_metrics_forget_last(struct povundiri_metrics *metrics) {
     struct povundiri_metric *const metric = metrics->all[metrics->count - 1];
     metrics->count -= 1;
-    free(metric->name);
-    free(metric->values);
-    free(metric);
+    end(metric);
 }
 
 void povundiri_metrics_judge_again(struct povundiri_metrics *metrics, struct povundiri_shape shape) {

@@ -147,7 +147,8 @@ uint32_t povundiri_folder_adopt(const struct povundiri_place *place, struct povu
         return POVUNDIRI_DONE;
     }
     /* A fold may take it before it is opened: then none is made in its place. */
-    status = povundiri_parts_open_in(folder, owned->name, shape, POVUNDIRI_FILE_EXISTING, &owned->file, &owned->segment, &opened);
+    status = povundiri_parts_open_in(folder, owned->name, shape, POVUNDIRI_FILE_EXISTING | place->flags, 0, &owned->file, &owned->segment,
+                                     &opened);
     if (status == POVUNDIRI_DONE && !opened.spent && !is_folded(folder, owned, opened.shape.id)) {
         begin(place, owned);
         found->newest = owned;
@@ -164,7 +165,8 @@ uint32_t povundiri_folder_adopt(const struct povundiri_place *place, struct povu
 static uint32_t open_unnamed(const struct povundiri_place *place, struct povundiri_shape shape, struct povundiri_owned *owned,
                              int *fault, bool *is_refused) {
     struct povundiri_opened opened;
-    const uint32_t status = povundiri_parts_open_in(folder_of(place), NULL, shape, 0, &owned->file, &owned->segment, &opened);
+    const uint32_t status =
+        povundiri_parts_open_in(folder_of(place), NULL, shape, place->flags, place->mode, &owned->file, &owned->segment, &opened);
     *fault = opened.fault;
     *is_refused = status == POVUNDIRI_SYSTEM && (*fault == EOPNOTSUPP || *fault == EISDIR || *fault == EINVAL);
     return status;
@@ -175,7 +177,8 @@ static uint32_t open_named(const struct povundiri_place *place, struct povundiri
     struct povundiri_opened opened;
     uint32_t status;
     povundiri_parts_name_spare(owned->name, (long)getpid(), random);
-    status = povundiri_parts_open_in(folder_of(place), owned->name, shape, 0, &owned->file, &owned->segment, &opened);
+    status = povundiri_parts_open_in(folder_of(place), owned->name, shape, place->flags, place->mode, &owned->file, &owned->segment,
+                                     &opened);
     *fault = opened.fault;
     /* It may have been made, and is empty. */
     if (status != POVUNDIRI_DONE) unlinkat(folder_of(place), owned->name, 0);
@@ -195,11 +198,16 @@ uint32_t povundiri_folder_spare(struct povundiri_place *place, struct povundiri_
         place->names_spares = true;
         status = open_named(place, shape, random, owned, fault);
     }
-    if (status == POVUNDIRI_DONE) {
-        *spare = owned;
-    } else {
+    if (status != POVUNDIRI_DONE) {
         free(owned);
+        return status;
     }
+    *fault = povundiri_parts_hand_over(povundiri_file_descriptor(&owned->file), folder_of(place));
+    if (*fault != 0) {
+        povundiri_folder_release(place, owned);
+        return POVUNDIRI_SYSTEM;
+    }
+    *spare = owned;
     return status;
 }
 

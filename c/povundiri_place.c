@@ -52,15 +52,25 @@ static bool keeps_locks(int folder) {
     return keeps;
 }
 
+/* Of a folder, for files of this mode: who may read there may pass through it. */
+static mode_t mode_of_folder(mode_t mode) { return mode | ((mode & 0444) >> 2); }
+
+/* Whether the folder is one to whose users this process trusts its memory. */
+static int judge(const struct povundiri_place *place, const struct stat *about) {
+    if ((about->st_mode & S_IWOTH) != 0) return EPERM;
+    if ((about->st_mode & S_IWGRP) != 0 && (place->flags & POVUNDIRI_FILE_GROUP_WRITES) == 0) return EPERM;
+    return about->st_uid != geteuid() && (place->flags & POVUNDIRI_FILE_ANY_OWNER) == 0 ? FAULT_NOT_OWNER : 0;
+}
+
 /* Opens the folder at its path, which is made if it is not there, and marks it. */
 static int open_at_path(struct povundiri_place *place) {
     struct stat about;
     int fault;
-    if (mkdir(place->path, 0700) != 0 && errno != EEXIST) return errno;
+    if (mkdir(place->path, mode_of_folder(place->mode)) != 0 && errno != EEXIST) return errno;
     fault = povundiri_parts_open_folder(&place->held, place->path);
     if (fault != 0) return fault;
-    fault = povundiri_parts_make_mark(place->held.descriptor);
-    if (fault == 0 && fstat(place->held.descriptor, &about) != 0) fault = errno;
+    fault = fstat(place->held.descriptor, &about) == 0 ? judge(place, &about) : errno;
+    if (fault == 0) fault = povundiri_parts_make_mark(place->held.descriptor, place->mode);
     if (fault != 0) {
         povundiri_parts_close(&place->held);
         return fault;
@@ -75,7 +85,7 @@ static int open_at_path(struct povundiri_place *place) {
 int povundiri_place_enter(struct povundiri_place *place, const char *folder) {
     int fault;
     if (!povundiri_folder_watch()) return ENOMEM;
-    if (mkdir(folder, 0700) != 0 && errno != EEXIST) return errno;
+    if (mkdir(folder, mode_of_folder(place->mode)) != 0 && errno != EEXIST) return errno;
     place->path = realpath(folder, NULL);
     if (place->path == NULL) return errno;
     fault = strlen(place->path) + LONGEST_NAME < POVUNDIRI_PATH_BYTES ? open_at_path(place) : ENAMETOOLONG;
@@ -105,17 +115,23 @@ static bool is_found(struct povundiri_place *place) {
     return false;
 }
 
+/* What is told of a fault where only one of the system can be told. */
+static int as_system(int fault) {
+    if (fault == FAULT_FOLDER_IN_USE) return EEXIST;
+    return fault == FAULT_NOT_OWNER ? EPERM : fault;
+}
+
 int povundiri_place_look(struct povundiri_place *place, bool *is_another) {
     struct stat about;
     *is_another = false;
     if (is_ours(place, &about)) {
-        if (about.st_nlink > 0) return povundiri_parts_make_mark(place->held.descriptor);
+        if (about.st_nlink > 0) return as_system(povundiri_parts_make_mark(place->held.descriptor, place->mode));
         povundiri_place_leave(place);
     } else if (is_found(place)) {
-        return povundiri_parts_make_mark(place->held.descriptor);
+        return as_system(povundiri_parts_make_mark(place->held.descriptor, place->mode));
     }
     *is_another = true;
-    return open_at_path(place);
+    return as_system(open_at_path(place));
 }
 
 int povundiri_place_copy(const struct povundiri_place *place, struct povundiri_held *held) {

@@ -4,6 +4,7 @@
 #include <cstdio>
 #include <cstdlib>
 
+#include "povundiri_names.hpp"
 #include "povundiri_status.hpp"
 
 namespace povundiri {
@@ -14,6 +15,15 @@ void raise(std::error_code fault, const std::string& asked) {
     throw std::system_error(fault, asked);
 #else
     std::fprintf(stderr, "povundiri: %s: %s\n", asked.c_str(), fault.message().c_str());
+    std::abort();
+#endif
+}
+
+void raise(const BadName& fault) {
+#if defined(__cpp_exceptions)
+    throw fault;
+#else
+    std::fprintf(stderr, "povundiri: %s\n", fault.what());
     std::abort();
 #endif
 }

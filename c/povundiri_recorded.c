@@ -10,8 +10,8 @@
 
 #include "povundiri_recording_parts.h"
 
-static const char *const REASONS[MISSED_REASONS] = {"too_large", "other_spec", "no_space",  "rolling",
-                                                              "forked",    "ended",      "no_memory", "removed"};
+static const char *const REASONS[MISSED_REASONS] = {"too_large", "other_spec", "no_space", "rolling", "forked",
+                                                    "ended",     "no_memory",  "removed",  "child",   "values"};
 
 const char *povundiri_missed_text(uint32_t reason) { return reason < MISSED_REASONS ? REASONS[reason] : NULL; }
 
@@ -30,30 +30,6 @@ uint32_t povundiri_recording_sums(struct povundiri_recording *recording, struct 
     }
     pthread_setcancelstate(state, NULL);
     return status;
-}
-
-/* Folds, if there are `least` segments or more. */
-static uint32_t fold(struct povundiri_recording *recording, uint64_t least, uint64_t *folded, int *fault) {
-    struct povundiri_held folder;
-    uint64_t segments = 0;
-    uint32_t status = POVUNDIRI_SYSTEM;
-    int state;
-    *folded = 0;
-    pthread_setcancelstate(PTHREAD_CANCEL_DISABLE, &state);
-    *fault = povundiri_recording_folder(recording, &folder);
-    if (*fault == 0) {
-        if (least > 0) *fault = povundiri_parts_count(folder.descriptor, &segments);
-        if (*fault == 0) status = segments < least ? (uint32_t)POVUNDIRI_DONE : povundiri_parts_fold(folder.descriptor, folded, fault);
-        povundiri_parts_close(&folder);
-    }
-    pthread_setcancelstate(state, NULL);
-    return status;
-}
-
-uint32_t povundiri_recording_fold(struct povundiri_recording *recording, uint64_t *folded, int *fault) {
-    uint64_t own = 0;
-    if (recording == NULL || fault == NULL) return POVUNDIRI_NULL;
-    return fold(recording, 0, folded != NULL ? folded : &own, fault);
 }
 
 /* Which text, and what is asked of it. */
@@ -136,8 +112,6 @@ uint32_t povundiri_recording_show(struct povundiri_recording *recording, uint16_
 /* It folds first, where there are many segments; whether that is done makes no difference to the text. */
 uint32_t povundiri_recording_export(struct povundiri_recording *recording, const char *prefix, char **text_at, size_t *length, int *fault) {
     const struct asked asked = {EXPORT, prefix, 0};
-    uint64_t folded = 0;
-    int of_fold = 0;
-    if (recording != NULL) (void)fold(recording, povundiri_recording_fold_at(recording), &folded, &of_fold);
+    if (recording != NULL) (void)povundiri_recording_fold_if_due(recording);
     return text(recording, &asked, text_at, length, fault);
 }

@@ -12,10 +12,11 @@
 /* How many threads have a recorder of their own in a segment; further ones share one. A segment has at most 256. */
 enum { MOST_RECORDERS = 250 };
 
-/* How many units a thread borrows at once; how often a sample is tried again in a new segment. */
-enum { LEASE = 1 << 20, MOST_TRIES = 8 };
+/* How many units a thread borrows at once. */
+enum { LEASE = 1 << 20 };
 
-static const uint64_t USUAL_APART = 1000000, USUAL_BYTES = 1 << 20, USUAL_FOLD_AT = 64;
+static const uint64_t USUAL_APART = 1000000, USUAL_BYTES = 1 << 20, USUAL_FOLD_AT = 64, USUAL_VALUES = 65536;
+static const mode_t USUAL_MODE = 0600;
 
 /* What a thread has of all. */
 struct table {
@@ -65,12 +66,12 @@ static uint32_t join_in(struct povundiri_recording *recording, struct local *loc
 
 /* What a thread has of a recording, with room for `metrics` metrics: no recorder yet; null if there is no memory. */
 static struct local *new_local(struct povundiri_recording *recording, size_t metrics) {
-    const size_t size = (sizeof(struct local) + metrics * sizeof(size_t) + LINES - 1) / LINES * LINES;
+    const size_t size = (sizeof(struct local) + metrics * sizeof(struct asked) + LINES - 1) / LINES * LINES;
     struct local *local;
     void *at = NULL;
     if (posix_memalign(&at, LINES, size) != 0) return NULL;
     local = (struct local *)at;
-    local->known = (size - sizeof *local) / sizeof(size_t);
+    local->known = (size - sizeof *local) / sizeof local->asked[0];
     local->recorder.held = false;
     local->recorder.at = NULL;
     local->recording = recording;
@@ -85,7 +86,7 @@ static bool enlarge(struct povundiri_recording *recording, struct local **local)
     larger->turn = old->turn;
     larger->recorder = old->recorder;
     larger->owned = old->owned;
-    memcpy(larger->hists, old->hists, old->known * sizeof *old->hists);
+    memcpy(larger->asked, old->asked, old->known * sizeof *old->asked);
     if (old == recording->shared) {
         recording->shared = larger;
     } else {
@@ -144,12 +145,15 @@ static uint32_t local_in(struct povundiri_recording *recording, uint32_t count, 
 
 /* Finds the histogram of a metric in the present segment, once for a recorder. */
 static uint32_t find(struct povundiri_recording *recording, struct local **local, size_t metric) {
-    const struct povundiri_metric *const asked = recording->metrics.all[metric];
-    size_t *hist;
+    const struct povundiri_metric *const of = recording->metrics.all[metric];
+    struct asked *asked;
+    uint32_t status;
     if (metric >= (*local)->known && !enlarge(recording, local)) return POVUNDIRI_NO_MEMORY;
-    hist = &(*local)->hists[metric];
-    if (*hist != NOT_ASKED) return POVUNDIRI_DONE;
-    return povundiri_hist(&(*local)->recorder, asked->name, asked->length, asked->spec, asked->values, asked->count, hist);
+    asked = &(*local)->asked[metric];
+    if (asked->hist != NOT_ASKED) return POVUNDIRI_DONE;
+    status = povundiri_hist(&(*local)->recorder, of->name, of->length, of->spec, of->values, of->count, &asked->hist);
+    if (status == POVUNDIRI_DONE) asked->distinct = of->distinct;
+    return status;
 }
 
 /* Lends a recorder what a sample needs. False if the segment has too few. */
@@ -164,14 +168,9 @@ static bool lend(struct povundiri_recording *recording, struct local *local, uin
 static uint32_t count_in(struct povundiri_recording *recording, struct local *local, size_t metric, int32_t value, uint32_t count) {
     uint32_t status = find(recording, &local, metric);
     if (status != POVUNDIRI_DONE) return status;
-    status = povundiri_add(&local->recorder, local->hists[metric], value, count);
+    status = povundiri_add(&local->recorder, local->asked[metric].hist, value, count);
     if (status != POVUNDIRI_REFUSED_NO_UNITS || !lend(recording, local, count)) return status;
-    return povundiri_add(&local->recorder, local->hists[metric], value, count);
-}
-
-/* Whether a later segment may count what this one has refused. */
-static bool is_spent(uint32_t status) {
-    return status == POVUNDIRI_REFUSED_FULL || status == POVUNDIRI_REFUSED_NO_UNITS || status == POVUNDIRI_REFUSED_CORRUPT;
+    return povundiri_add(&local->recorder, local->asked[metric].hist, value, count);
 }
 
 static enum povundiri_missed reason_of(uint32_t status) {
@@ -185,43 +184,83 @@ static enum povundiri_missed reason_of(uint32_t status) {
     }
 }
 
-/* Whether the next segment was begun since the present one, which another process began, has the histogram with another spec: so the buckets of
- * a new release count at once. */
-static bool is_left_for(struct povundiri_recording *recording, uint32_t status) {
-    return status == POVUNDIRI_REFUSED_OTHER_SPEC && recording->began_at == 0 && povundiri_segments_begin_next(recording) == 0;
+/* Whether another metric of this recording has the name of this one in the present segment. */
+static bool is_own_name(struct povundiri_recording *recording, size_t metric) {
+    const struct povundiri_metric *const asked = recording->metrics.all[metric];
+    struct local *local = NULL;
+    size_t i;
+    if (local_in(recording, 0, &local) != POVUNDIRI_DONE) return true;
+    for (i = 0; i < recording->metrics.count; i += 1) {
+        if (i != metric && povundiri_metrics_have_one_name(recording->metrics.all[i], asked) &&
+            find(recording, &local, i) == POVUNDIRI_DONE) {
+            return true;
+        }
+    }
+    return false;
 }
 
-/* Counts a sample in the present segment, or in one that is begun for it; or misses it. */
-static bool count_or_miss(struct povundiri_recording *recording, size_t metric, int32_t value, uint32_t count) {
+/* Whether the next segment was begun since the present one has the histogram with another spec, which is no metric's: another process began
+ * it, so the buckets of a new release count at once; or a child has counted there, and silences no metric. */
+static bool is_left_for(struct povundiri_recording *recording, size_t metric, uint32_t status) {
+    if (status != POVUNDIRI_REFUSED_OTHER_SPEC) return false;
+    if (recording->began_at != 0 && (!may_have_childs(recording) || is_own_name(recording, metric))) return false;
+    return povundiri_segments_begin_next(recording) == 0;
+}
+
+/* Whether a sample has a value that is one too many. */
+static bool is_too_many(struct povundiri_distinct *distinct, int32_t value, uint32_t count) {
+    return distinct != NULL && count > 0 && !povundiri_distinct_take(distinct, value);
+}
+
+/* Counts a sample in the present segment, or in one that is begun for it. Else the reason why it is not counted. */
+static bool count_here(struct povundiri_recording *recording, size_t metric, int32_t value, uint32_t count, enum povundiri_missed *reason) {
     struct local *local = NULL;
     uint32_t status = POVUNDIRI_DONE;
     int tries;
+    *reason = POVUNDIRI_MISSED_VALUES;
+    if (is_too_many(recording->metrics.all[metric]->distinct, value, count)) return false;
+    *reason = POVUNDIRI_MISSED_ROLLING;
     for (tries = 0; tries < MOST_TRIES; tries += 1) {
         enum rolled rolled;
         if (recording->current == NULL && povundiri_segments_begin_next(recording) != 0) {
-            miss(recording, POVUNDIRI_MISSED_NO_SPACE, count);
+            *reason = POVUNDIRI_MISSED_NO_SPACE;
             return false;
         }
         status = local_in(recording, count, &local);
         if (status == POVUNDIRI_DONE) status = count_in(recording, local, metric, value, count);
         if (status == POVUNDIRI_DONE) return true;
-        if (is_left_for(recording, status)) continue;
+        if (is_left_for(recording, metric, status)) continue;
         if (!is_spent(status)) {
-            miss(recording, reason_of(status), count);
+            *reason = reason_of(status);
             return false;
         }
         if (status == POVUNDIRI_REFUSED_FULL && recording->metrics.all[metric]->is_too_large) {
-            miss(recording, POVUNDIRI_MISSED_TOO_LARGE, count);
+            *reason = POVUNDIRI_MISSED_TOO_LARGE;
             return false;
         }
         rolled = povundiri_segments_roll(recording, status);
-        if (rolled != BEGUN) {
-            miss(recording, rolled == TOO_SOON ? POVUNDIRI_MISSED_ROLLING : POVUNDIRI_MISSED_NO_SPACE, count);
-            return false;
-        }
+        if (rolled == REFUSED) *reason = POVUNDIRI_MISSED_NO_SPACE;
+        if (rolled != BEGUN) return false;
     }
-    miss(recording, POVUNDIRI_MISSED_ROLLING, count);
     return false;
+}
+
+/* Whether there may be room for a segment by now, since there was none for this reason. */
+static bool makes_room(struct povundiri_recording *recording, enum povundiri_missed reason) {
+    if (reason != POVUNDIRI_MISSED_NO_SPACE || (!recording->lacks_room && !recording->is_making_room)) return false;
+    return povundiri_recording_make_room(recording) && recording->state == RECORDS;
+}
+
+/* Counts a sample, or misses it. If there is no room for a segment, it is tried again after a fold, whose room other threads may have taken. */
+static bool count_or_miss(struct povundiri_recording *recording, size_t metric, int32_t value, uint32_t count) {
+    enum povundiri_missed reason;
+    bool counted = count_here(recording, metric, value, count, &reason);
+    int tries;
+    for (tries = 1; tries < MOST_TRIES && !counted && makes_room(recording, reason); tries += 1) {
+        counted = count_here(recording, metric, value, count, &reason);
+    }
+    if (!counted) miss(recording, recording->state == HAS_ENDED ? POVUNDIRI_MISSED_ENDED : reason, count);
+    return counted;
 }
 
 /* ---- Threads and forks ---- */
@@ -265,7 +304,9 @@ static void in_child(void) {
     size_t i;
     for (each = recordings; each != NULL; each = each->next) {
         pthread_mutex_init(&each->mutex, NULL);
+        pthread_cond_init(&each->room, NULL);
         each->state = IS_FORKED;
+        each->is_making_room = false;
         each->current = each->spare = each->old = NULL;
         each->is_preparing = false;
         each->folder.is_open = false;
@@ -314,10 +355,17 @@ static bool add_slowly(struct povundiri_recording *recording, size_t metric, int
     return counted;
 }
 
+/* A sample of a metric whose values are bounded. Apart, so that others save no register for it. */
+static __attribute__((noinline)) uint32_t add_distinct(struct local *local, const struct asked *asked, int32_t value, uint32_t count) {
+    if (is_too_many(asked->distinct, value, count)) return POVUNDIRI_UNKNOWN;
+    return povundiri_add(&local->recorder, asked->hist, value, count);
+}
+
 /* No segment of another recording has this turn. Where a histogram was not asked for, it is the recorder that refuses the sample. Its call
  * comes last, so that no register is saved for it. */
 uint32_t povundiri_recording_add_usual(struct povundiri_recording *recording, size_t metric, int32_t value, uint32_t count) {
     struct local *local = latest;
+    const struct asked *asked;
     uint64_t turn;
     if (recording == NULL) return POVUNDIRI_NULL;
     turn = __atomic_load_n(&recording->turn, __ATOMIC_RELAXED);
@@ -327,13 +375,24 @@ uint32_t povundiri_recording_add_usual(struct povundiri_recording *recording, si
         latest = local;
     }
     if (metric >= local->known) return POVUNDIRI_UNKNOWN;
-    return povundiri_add(&local->recorder, local->hists[metric], value, count);
+    asked = &local->asked[metric];
+    if (__builtin_expect(asked->distinct != NULL, 0)) return add_distinct(local, asked, value, count);
+    return povundiri_add(&local->recorder, asked->hist, value, count);
+}
+
+/* Misses a value too many, if it is known in the present segment that the metric is bounded: no mutex is taken for it. */
+static bool misses_value(struct povundiri_recording *recording, size_t metric, int32_t value, uint32_t count) {
+    const struct local *const local = found_local(recording);
+    if (local == NULL || local->turn != __atomic_load_n(&recording->turn, __ATOMIC_RELAXED) || metric >= local->known) return false;
+    if (!is_too_many(local->asked[metric].distinct, value, count)) return false;
+    miss(recording, POVUNDIRI_MISSED_VALUES, count);
+    return true;
 }
 
 bool povundiri_recording_add_other(struct povundiri_recording *recording, size_t metric, int32_t value, uint32_t count) {
     int kept, state;
     bool counted;
-    if (recording == NULL) return false;
+    if (recording == NULL || misses_value(recording, metric, value, count)) return false;
     kept = errno;
     pthread_setcancelstate(PTHREAD_CANCEL_DISABLE, &state);
     counted = add_slowly(recording, metric, value, count);
@@ -370,7 +429,7 @@ static uint32_t ask(struct povundiri_recording *recording, size_t metric) {
     do {
         status = local_in(recording, 0, &local);
         if (status == POVUNDIRI_DONE) status = find(recording, &local, metric);
-    } while (is_left_for(recording, status));
+    } while (is_left_for(recording, metric, status));
     return is_spent(status) ? (uint32_t)POVUNDIRI_DONE : status;
 }
 
@@ -416,6 +475,22 @@ uint32_t povundiri_recording_scale(struct povundiri_recording *recording, const 
     return name == NULL ? (uint32_t)POVUNDIRI_NULL : povundiri_recording_hist(recording, name, strlen(name), spec, NULL, 0, metric);
 }
 
+/* ---- For povundiri_recording_children.c alone ---- */
+
+uint32_t povundiri_counting_join(struct povundiri_recording *recording, uint32_t count, struct local **local) {
+    return local_in(recording, count, local);
+}
+
+uint32_t povundiri_counting_find(struct povundiri_recording *recording, struct local **local, size_t metric) {
+    return find(recording, local, metric);
+}
+
+bool povundiri_counting_lend(struct povundiri_recording *recording, struct local *local, uint32_t count) {
+    return lend(recording, local, count);
+}
+
+void povundiri_counting_leave(struct povundiri_recording *recording) { leave(recording); }
+
 /* ---- For povundiri_recorded.c alone ---- */
 
 int povundiri_recording_folder(struct povundiri_recording *recording, struct povundiri_held *held) {
@@ -428,8 +503,6 @@ int povundiri_recording_folder(struct povundiri_recording *recording, struct pov
     pthread_setcancelstate(state, NULL);
     return fault;
 }
-
-uint64_t povundiri_recording_fold_at(const struct povundiri_recording *recording) { return recording->options.fold_at; }
 
 /* ---- Beginning and end ---- */
 
@@ -448,10 +521,16 @@ static struct povundiri_recording *new_recording(const struct povundiri_recordin
     if (recording->options.bytes == 0) recording->options.bytes = USUAL_BYTES;
     if (recording->options.fold_at == 0) recording->options.fold_at = USUAL_FOLD_AT;
     if (recording->options.apart == 0) recording->options.apart = USUAL_APART;
+    if (recording->options.mode == 0) recording->options.mode = USUAL_MODE;
+    if (recording->options.most_values == 0) recording->options.most_values = USUAL_VALUES;
+    recording->metrics.most_values = recording->options.most_values;
     recording->bytes = recording->options.bytes;
+    recording->folder.flags = recording->options.flags;
+    recording->folder.mode = recording->options.mode;
     recording->shape = povundiri_segments_shape_for(recording->bytes);
     recording->turn = NO_SEGMENT;
     pthread_mutex_init(&recording->mutex, NULL);
+    pthread_cond_init(&recording->room, NULL);
     return recording;
 }
 
@@ -466,12 +545,10 @@ static uint32_t open_recording(const char *folder, struct povundiri_recording *r
     const uint32_t status = check_shape(recording->shape);
     if (status != POVUNDIRI_DONE) return status;
     *fault = povundiri_place_enter(&recording->folder, folder);
-    if (*fault == ENOMEM) {
-        *fault = 0;
-        return POVUNDIRI_NO_MEMORY;
-    }
-    if (*fault != 0) return POVUNDIRI_SYSTEM;
+    if (*fault != 0) return povundiri_parts_status(fault);
+    pthread_mutex_lock(&recording->mutex);
     povundiri_segments_begin_first(recording);
+    pthread_mutex_unlock(&recording->mutex);
     pthread_mutex_lock(&list_mutex);
     recording->place = places;
     places += 1;
@@ -481,6 +558,13 @@ static uint32_t open_recording(const char *folder, struct povundiri_recording *r
     return POVUNDIRI_DONE;
 }
 
+static bool are_valid(const struct povundiri_recording_options *options) {
+    const unsigned flags = POVUNDIRI_FILE_ANY_OWNER | POVUNDIRI_FILE_GROUP_WRITES;
+    if (!povundiri_parts_are_known(options, sizeof *options, sizeof *options) || (options->flags & ~flags) != 0) return false;
+    if (options->most_bytes != 0 && options->most_bytes / 2 < (options->bytes != 0 ? options->bytes : USUAL_BYTES)) return false;
+    return povundiri_parts_is_mode(options->mode, options->flags);
+}
+
 uint32_t povundiri_recording_open(const char *folder, const struct povundiri_recording_options *options,
                                   struct povundiri_recording **recording, int *fault) {
     struct povundiri_recording *made;
@@ -488,8 +572,8 @@ uint32_t povundiri_recording_open(const char *folder, const struct povundiri_rec
     int state;
     if (folder == NULL || recording == NULL || fault == NULL) return POVUNDIRI_NULL;
     if (*recording != NULL) return POVUNDIRI_NOT_EMPTY;
-    *fault = options != NULL && !povundiri_parts_are_known(options, sizeof *options, sizeof *options) ? EINVAL : 0;
-    if (*fault != 0) return POVUNDIRI_SYSTEM;
+    *fault = 0;
+    if (options != NULL && !are_valid(options)) return POVUNDIRI_BAD_OPTIONS;
     pthread_once(&once, make_ready);
     made = is_ready ? new_recording(options) : NULL;
     if (made == NULL) return POVUNDIRI_NO_MEMORY;
@@ -501,6 +585,7 @@ uint32_t povundiri_recording_open(const char *folder, const struct povundiri_rec
         *recording = made;
     } else {
         pthread_mutex_destroy(&made->mutex);
+        pthread_cond_destroy(&made->room);
         free(made->folder.path);
         free(made->shared);
         free(made);

@@ -19,11 +19,12 @@
  * value of a sparse histogram takes 8 words. So the usual 1 MiB has room for about 64 histograms like the one above, or 1,000 linear ones of
  * 50 buckets.
  *
- * THREADS need no handles, and all calls may come from any threads at any time. A thread gets a recorder when it first counts a sample or
- * asks for a histogram, and gives it back when it ends. A sample takes the recording's mutex if it is the first of its thread in a segment,
- * or the thread's first of a histogram there; if the thread borrows units for it, about 1,048,576 at once; if a segment is begun for it; and
- * if it is missed. All others take none. One of the threads that took it also makes the file of the segment after the present one, a spare,
- * if there is none. Beyond 250 threads, further ones share a recorder, and each of their samples takes the mutex.
+ * THREADS need no handles, and all calls may come from any threads at any time. A thread gets a recorder when it first counts a sample,
+ * asks for a histogram or follows a child, and gives it back when it ends. A sample takes the recording's mutex if it is the first of its
+ * thread in a segment, or the thread's first of a histogram there; if the thread borrows units for it, about 1,048,576 at once; if a
+ * segment is begun for it; and if it is missed for another reason than VALUES. All others take none. One of the threads that took it also
+ * makes the file of the segment after the present one, a spare, if there is none. Beyond 250 threads, further ones share a recorder, and
+ * each of their samples takes the mutex.
  *
  * WHAT COULD NOT BE COUNTED is counted, by reason: povundiri_recording_missed. It is in the texts of this process as well.
  *
@@ -33,9 +34,14 @@
  * had, also when that is folded; of the others the report has only how many units there are (!other), and the totals of
  * povundiri_recording_sums have all.
  *
- * USERS. The folder is made with mode 0700, and its files with 0600: it is for the processes of one user, also for folds. A segment that this
- * user may not read is a fault of each text; so are totals that it may not read, such as those of a fold by root, and then no segment can be
- * begun either. Only users who are trusted like the program itself may write in the folder, or in those that it is in.
+ * USERS. The folder is made with mode 0700, and its files with 0600: it is for the processes of one user, its owner. Others, root too,
+ * cannot open a recording in it, unless the options have POVUNDIRI_FILE_ANY_OWNER: then its owner and whoever else records there are
+ * trusted like the program itself. A folder that others may write is refused, and one that its group may write as well, unless the options
+ * have POVUNDIRI_FILE_GROUP_WRITES. Root gives what it makes to the owner of the folder. So a daemon that starts as root and becomes
+ * another user opens the recording with POVUNDIRI_FILE_ANY_OWNER, in a folder of that user. With the mode 0640 the folder's group may read
+ * it, with persist_report or povundiri_folder_sums; files get the group of the folder if the user that makes them is in it. A folder that
+ * was there before keeps its mode, and so does `recording` in it, whose mode the totals get. A segment that a reader may not read is a
+ * fault of each text. Who may write in the folders that it is in has to be trusted as well.
  *
  * THE FOLDER MAY MOVE. A recording keeps a descriptor of it, so it stays with a folder that is renamed, and needs no path to it after
  * setuid or
@@ -52,6 +58,12 @@
  * but after a second at once if the device or a quota is full, or the folder is read-only, gone or closed to this user (ENOSPC, EDQUOT,
  * EROFS,
  * EACCES, ENOENT).
+ *
+ * A FULL DEVICE, also a full quota, or a folder that has most_bytes of the options: what needs a segment folds first, outside of the mutex.
+ * Mostly that is the thread that makes the spare, while all others count in the present segment. Threads that need a segment themselves
+ * wait for that fold. Where it has made no room, samples are missed, as NO_SPACE, and a second later it is tried again. A fold needs some
+ * room itself, for the totals. A service whose threads have no time for folds, nor to make spares, calls povundiri_recording_maintain now
+ * and then in a thread of its own.
  *
  * FORK. A child of fork has no part in the recordings of its parent: there each sample is missed, as FORKED, and povundiri_recording_end and
  * _leave do nothing. To count, the child opens a recording of its own, which may be in the same folder, and asks that for its
@@ -71,6 +83,7 @@
 #include <stdint.h>
 
 #include "povundiri_folder.h"
+#include "povundiri_merge.h"
 
 #ifdef __cplusplus
 extern "C" {
@@ -80,16 +93,27 @@ struct povundiri_recording;
 
 /* What a recording is to do. It begins as POVUNDIRI_RECORDING_OPTIONS, which is what is usual, as are zeros and a null in its place.
  *   size      of this struct, as the caller knows it; 0: as it was first. If it is less than that, or a member that is not known here is
- *             not 0,
- *             the options are refused (EINVAL)
+ *             not 0, the options are refused (POVUNDIRI_BAD_OPTIONS)
  *   bytes     that a segment has at most, from 512 to 8,388,608, until one is too small (SIZE, above); 0: 1 MiB. From 32,768 on, every
  *             histogram of 1,000 buckets fits in one
- *   fold_at   povundiri_recording_export folds first if the folder has this many segments or more; 0: 64; UINT64_MAX: never
- *   apart     the least nanoseconds from the beginning of a segment to that of the next one; 0: 1,000,000. The first segment of a recording
- *             may be followed at once. One of the largest size that has no room is not followed before a second has passed
+ *   fold_at   povundiri_recording_export and _maintain fold first if the folder has this many segments or more; a thread that makes a spare
+ *             folds afterwards if it has four times as many; 0: 64; UINT64_MAX: none of these folds
+ *   apart     the least nanoseconds from the beginning of a segment to that of the next one; 0: 1,000,000. The first segment of a
+ *             recording may be followed at once, and for a sample one that children have filled. One of the largest size that has no room
+ *             is not followed before a second has passed
  *   random    returns random numbers, for ids and names, another one each time; null: getrandom(2). Threads call it as they record, also
  *             two at once, and it makes no call of a recording
- *   context   what `random` is given */
+ *   context   what `random` is given
+ *   flags     whom the folder and its files may belong to (USERS, above): 0, or one or both of
+ *             POVUNDIRI_FILE_ANY_OWNER, POVUNDIRI_FILE_GROUP_WRITES
+ *   mode      of the files that are made, as povundiri_file_options has it; 0: 0600. A folder that is made has it too, and who may read may
+ *             pass through it: 0640, which lets a group read, makes a folder of 0750
+ *   most_bytes   that all files of the folder have together, where a segment is made; 0: no limit; else at least two of `bytes`. It is
+ *             a limit as that of a device is (A FULL DEVICE, above). Spares without a name, of which other processes have one each, are not
+ *             counted
+ *   most_values   that each sparse histogram has in this process; 0: 65,536; UINT64_MAX: no limit. Samples of others are missed, as VALUES,
+ *             so that values from outside, such as numbers of users, do not fill the folder, nor its totals. The table of them, of 16 to 32
+ *             bytes for each, is made with the histogram, and its pages take memory as they are used */
 struct povundiri_recording_options {
     size_t size;
     uint64_t bytes;
@@ -97,9 +121,13 @@ struct povundiri_recording_options {
     uint64_t apart;
     uint64_t (*random)(void *context);
     void *context;
+    unsigned flags;
+    mode_t mode;
+    uint64_t most_bytes;
+    uint64_t most_values;
 };
 
-#define POVUNDIRI_RECORDING_OPTIONS {sizeof(struct povundiri_recording_options), 0, 0, 0, NULL, NULL}
+#define POVUNDIRI_RECORDING_OPTIONS {sizeof(struct povundiri_recording_options), 0, 0, 0, NULL, NULL, 0, 0, 0, 0}
 
 /* How a recording began. More may be said at its end by later versions.
  *   number     that of its segment; 0: there is none yet, since none could be made. A sample tries again
@@ -130,7 +158,9 @@ struct povundiri_began {
  *   NO_MEMORY   there was no memory for what the first samples of a thread or of a histogram take
  *   REMOVED     somebody removed the segment from the folder, or the folder: the units that were in it when the last thread left it, also
  *               those
- *               whose povundiri_recording_add was true */
+ *               whose povundiri_recording_add was true
+ *   CHILD       units of a child that were given up (povundiri_recording_give_up)
+ *   VALUES      the value is a new one of a sparse histogram that had `most_values` of the options in this process */
 enum povundiri_missed {
     POVUNDIRI_MISSED_TOO_LARGE = 0,
     POVUNDIRI_MISSED_OTHER_SPEC = 1,
@@ -139,7 +169,9 @@ enum povundiri_missed {
     POVUNDIRI_MISSED_FORKED = 4,
     POVUNDIRI_MISSED_ENDED = 5,
     POVUNDIRI_MISSED_NO_MEMORY = 6,
-    POVUNDIRI_MISSED_REMOVED = 7
+    POVUNDIRI_MISSED_REMOVED = 7,
+    POVUNDIRI_MISSED_CHILD = 8,
+    POVUNDIRI_MISSED_VALUES = 9
 };
 
 /* The name of a reason, such as "no_space"; null for a number that is none: the reasons are those from 0 to the first such number. */
@@ -159,10 +191,11 @@ const char *povundiri_missed_text(uint32_t reason);
  * missed, as NO_SPACE, it is tried again, and povundiri_recording_began says why. On any other status *recording is unchanged.
  *   POVUNDIRI_NULL (any but the options), POVUNDIRI_NOT_EMPTY (*recording), POVUNDIRI_NO_MEMORY, POVUNDIRI_OPEN_NO_MEMORY
  *   POVUNDIRI_OPEN_BAD_SHAPE   `bytes` of the options is too small or too large for a segment
- *   POVUNDIRI_SYSTEM           *fault says what, and is else 0: EINVAL: the options are not known; EEXIST: the folder is neither empty nor
- *                              a recording's (povundiri_folder.h), and nothing
- *                              is changed in it; ENOTDIR: it is no folder;
- *                              ENOENT: that which it would be in is not there; ENAMETOOLONG, EACCES, EROFS and others as the calls say
+ *   POVUNDIRI_BAD_OPTIONS      the options have a size, a member, a flag or a mode that is not known here
+ *   POVUNDIRI_NOT_OWNER        the folder is another user's (USERS, above)
+ *   POVUNDIRI_FOLDER_IN_USE    the folder is neither empty nor a recording's (povundiri_folder.h), and nothing is changed in it
+ *   POVUNDIRI_SYSTEM           *fault says what, and is else 0: ENOTDIR: it is no folder; ENOENT: that which it would be in is not there;
+ *                              EPERM: others may write in it; ENAMETOOLONG, EACCES, EROFS and others as the calls say
  * Keep: pointers; process. */
 uint32_t povundiri_recording_open(const char *folder, const struct povundiri_recording_options *options,
                                   struct povundiri_recording **recording, int *fault) POVUNDIRI_CHECKED;
@@ -173,7 +206,7 @@ const struct povundiri_began *povundiri_recording_began(const struct povundiri_r
 
 /* Ends it: from now on samples are missed, as ENDED. Texts, sums and folds still work. With a null, or a second time, nothing happens.
  * This thread gives back what it has of the recording. A segment that others recorded into is final, so that a fold takes it, when each of
- * them has ended, or has called povundiri_recording_add or _leave once more.
+ * them has ended, or has called povundiri_recording_add, _follow or _leave once more.
  * Keep: process. */
 void povundiri_recording_end(struct povundiri_recording *recording);
 
@@ -223,6 +256,59 @@ void povundiri_recording_leave(struct povundiri_recording *recording);
  * Keep: process. */
 uint64_t povundiri_recording_missed(const struct povundiri_recording *recording, uint32_t reason);
 
+/* ---- Children ---- */
+
+/* Adds to a recording what came of a segment that others record into, such as that of a child (povundiri_shared.h): what the image
+ * `words`, mostly a look, has above what the follower has noted (povundiri_follower_merge, which says what `most` and `report` are).
+ *
+ *     struct povundiri_merge_report report = {sizeof report};
+ *     status = povundiri_recording_follow(recording, &follower, words, length, 1000000, &report);    now and then, and once it is dead
+ *
+ * It is added to the present segment, by this thread's recorder, which borrows the units. If that has no room or too few units, the next
+ * segment is begun as for a sample, and what is left is added there, up to eight times. `report` is of all of it: `added` is the sum,
+ * `cost` that of all that came, and the rest as at the end. WHAT IS LEFT IS NOT MISSED: `report->left` is how many units, and the next
+ * call adds them.
+ *
+ * NAMES. What a child counts makes no metrics. If a metric of this recording has the name with another spec, the child's histogram is
+ * passed over (REFUSED_OTHER_SPEC), in each segment. If the metric comes later, and finds the child's spec in the present segment, the
+ * next segment is begun for it. Two children that have a name with two specs: in each segment the one that came first has it.
+ *
+ * THE PARENT COUNTS ON. If children have filled a segment that was begun less than `apart` before (or less than a second, if it has the
+ * largest size), a sample that finds no room or too few units there begins the next one all the same. Then what children counted is left
+ * for as long: REFUSED_FULL with an empty `report->name`.
+ *
+ * More than 4,294,967,295 units, which a segment has at most, are never added at once, whatever `most` is: COSTS_MORE.
+ *
+ * Statuses: NULL; SHORT: of `report->size`. With an empty `report->name` nothing has happened, and the same image may be passed again:
+ *   EMPTY: the follower is; or the recording has ended, or is the parent's of a child of fork
+ *   REFUSED_FULL, REFUSED_NO_UNITS, REFUSED_CORRUPT: no segment has room for metrics, or as many units, and none may be begun now
+ *   OTHER_KIND, IMAGE_.., TOO_MANY_KEYS, IMAGE_NO_MEMORY, OTHER_SEGMENT, FELL, COSTS_MORE, NO_MEMORY: as povundiri_follower_merge
+ *   REFUSED_NO_MEMORY: there was none for a metric
+ * Else `report` names a histogram, and says with which status it was refused: it and perhaps others are left, the rest is added.
+ * Keep: pointers; turns of the follower: one call at a time for each, of any thread; nobody changes `words` meanwhile; process. */
+uint32_t povundiri_recording_follow(struct povundiri_recording *recording, struct povundiri_handle *follower, const uint64_t *words,
+                                    size_t length, uint64_t most, struct povundiri_merge_report *report) POVUNDIRI_CHECKED;
+
+/* Adds what no delta took of a segment that is dead, once (povundiri_merge), as above: by a follower that has noted what deltas took
+ * (povundiri_follower_of_marks), and without a limit but that of a segment. A second call adds it again, and so does one beside a follower.
+ * What is left in the end is only said. To add it later, make such a follower yourself, and follow the same image with it until nothing is
+ * left.
+ *
+ * Statuses: as above, but EMPTY of a follower, OTHER_SEGMENT and FELL.
+ * Keep: pointers; nobody changes `words` meanwhile; process. */
+uint32_t povundiri_recording_merge(struct povundiri_recording *recording, const uint64_t *words, size_t length, uint64_t most_keys,
+                                   struct povundiri_merge_report *report) POVUNDIRI_CHECKED;
+
+/* Gives up what came: the follower notes the image, nothing is added, and its units above what was noted are missed, once, as CHILD. It is
+ * for what costs more than it may (COSTS_MORE), and for what is left of a child that is dead. `report->left` is how many units these are,
+ * and its other numbers are 0. It may be called after the end of the recording, too.
+ *
+ * Statuses: NULL; SHORT; EMPTY: the follower is; or the recording is the parent's of a child of fork; and as povundiri_follower_skip. On
+ * any but DONE nothing has happened.
+ * Keep: as povundiri_recording_follow. */
+uint32_t povundiri_recording_give_up(struct povundiri_recording *recording, struct povundiri_handle *follower, const uint64_t *words,
+                                     size_t length, struct povundiri_merge_report *report) POVUNDIRI_CHECKED;
+
 /* ---- What was counted ---- */
 
 /* The sum of the folder (povundiri_folder_sums): what all processes recorded into it, this one and others, now and before.
@@ -249,6 +335,12 @@ uint32_t povundiri_recording_export(struct povundiri_recording *recording, const
                                     int *fault) POVUNDIRI_CHECKED;
 uint32_t povundiri_recording_show(struct povundiri_recording *recording, uint16_t width, char **text, size_t *length,
                                   int *fault) POVUNDIRI_CHECKED;
+
+/* Does what other calls would have to do later: makes the spare, if there is none; looks whether the present segment is still in the folder;
+ * and folds, if the folder has `fold_at` segments or more. It is for a thread that does nothing else but to call it, say, each second. It
+ * waits for the device.
+ * Statuses and what to keep: as povundiri_recording_fold, which says which fault it is; but POVUNDIRI_DONE also if somebody else folds. */
+uint32_t povundiri_recording_maintain(struct povundiri_recording *recording);
 
 /* povundiri_folder_fold of its folder. The present segments of this and of other recordings are not final, and stay.
  * Statuses and what to keep: as there; POVUNDIRI_NULL also if `recording` is null. */

@@ -2,16 +2,18 @@
 // changed histograms need.
 //
 //     povundiri::Recording recording("metrics");                       // a folder
-//     const auto latency = recording.scale("request_us", 1, 10'000'000, 5);
-//     latency.add(elapsed_us);                                         // any thread; never throws; no lock in the usual sample
+//     const auto latency = recording.scale<std::chrono::microseconds>("request_us", 1us, 10s, 5);
+//     latency.add(std::chrono::steady_clock::now() - start);           // any thread; never throws; no lock in the usual sample
 //     std::string text = recording.prometheus();                       // at any time
 //
 // CALLS. 'add', 'missed', 'leave' and 'end' throw nothing. 'try_' calls return a Status, or an error code: of the category
 // povundiri::category(), with which a Status is compared, or the system's. All others throw as those of povundiri.hpp do: a Fault, or a
 // std::system_error for a fault of the system. Besides, what fills a string may throw std::bad_alloc.
 //
-// THREADS. A Metric is copied and used by any threads at any time, also when its Recording has ended. Calls of one Recording come from any
-// threads, as long as none moves, assigns, ends or destroys that object meanwhile.
+// THREADS. A Metric, a Timed, a Counter and a Family are copied and used by any threads at any time, also when their Recording has ended.
+// Calls of one Recording come from any threads, as long as none moves, assigns, ends or destroys that object meanwhile.
+//
+// What counts is in povundiri_metric.hpp, names with labels are in povundiri_names.hpp, and families in povundiri_family.hpp.
 //
 // An empty Recording (one that was moved from, has ended, or could not be opened) has nothing: calls that return text or a number of
 // segments, and those for histograms, return or throw Null, 'missed' is 0, and 'end' and 'leave' do nothing.
@@ -19,8 +21,13 @@
 #define POVUNDIRI_RECORDING_HPP
 
 #include <filesystem>
+#include <memory>
+#include <vector>
 
 #include "povundiri.hpp"
+#include "povundiri_family.hpp"
+#include "povundiri_metric.hpp"
+#include "povundiri_names.hpp"
 #include "povundiri_recording.h"
 
 namespace povundiri {
@@ -39,30 +46,9 @@ enum class Missed : std::uint32_t {
     Forked = POVUNDIRI_MISSED_FORKED,
     Ended = POVUNDIRI_MISSED_ENDED,
     NoMemory = POVUNDIRI_MISSED_NO_MEMORY,
-    Removed = POVUNDIRI_MISSED_REMOVED
-};
-
-// A histogram of a recording, for any thread, also after the recording has ended. One that no recording returned counts nothing, and what it
-// is given is not counted as missed either.
-class Metric {
-public:
-    constexpr Metric() noexcept = default;
-
-    // Counts a sample: 'count' units of a value, all or none of them. False if it was missed.
-    bool add(Value value, std::uint32_t count = 1) const noexcept {
-        return povundiri_recording_add(recording_, number_, value.get(), count);
-    }
-
-    // What the call returned that made it: Done, or why samples are missed: RefusedOtherSpec, RefusedTooLarge (povundiri_recording_hist).
-    // Empty: no call did.
-    Status status() const noexcept { return status_; }
-
-private:
-    friend class Recording;
-
-    povundiri_recording* recording_ = nullptr;
-    std::size_t number_ = 0;
-    Status status_ = Status::Empty;
+    Removed = POVUNDIRI_MISSED_REMOVED,
+    Child = POVUNDIRI_MISSED_CHILD,
+    Values = POVUNDIRI_MISSED_VALUES
 };
 
 class Recording {
@@ -120,14 +106,7 @@ public:
     // The histogram of a name. A name or a spec that no histogram may have is returned, or thrown as a Fault, and 'metric' is unchanged. But
     // RefusedOtherSpec and RefusedTooLarge are not thrown: there is a metric all the same, and its 'status' returns them.
     [[nodiscard]] Status try_hist(std::string_view name, povundiri_spec spec, Span<const std::uint32_t> values, Metric& metric) noexcept {
-        std::size_t number = 0;
-        const auto status = static_cast<Status>(
-            povundiri_recording_hist(recording_, name.data(), name.size(), spec, values.data(), values.size(), &number));
-        if (!is_made(status)) return status;
-        metric.recording_ = recording_;
-        metric.number_ = number;
-        metric.status_ = status;
-        return status;
+        return Metric::ask(recording_, name, spec, values, metric);
     }
     Metric linear(std::string_view name, std::uint32_t minimum, std::uint32_t maximum, std::uint32_t buckets) {
         return made(name, {POVUNDIRI_LINEAR, minimum, maximum, buckets}, {});
@@ -141,14 +120,111 @@ public:
     Metric enumeration(std::string_view name, std::uint32_t n) { return linear(name, 1, n, n + 1); }
     Metric sparse(std::string_view name) { return made(name, {POVUNDIRI_SPARSE, 0, 0, 0}, {}); }
 
+    // The same of times, which are counted in whole ticks of a unit: 'recording.scale<std::chrono::microseconds>(..)'. The bounds are
+    // durations too, and one of more ticks than 32 bits hold is refused as a spec. A name that says another unit is BadUnit: the unit is what
+    // stands after the last '_' or '.' before its labels, if that is ns, us, ms, seconds, bytes, kib or mib.
+    template <typename Unit>
+    [[nodiscard]] Status try_hist(std::string_view name, povundiri_spec spec, Span<const std::uint32_t> values,
+                                  Timed<Unit>& timed) noexcept {
+        return detail::may_count_in<Unit>(name) ? try_hist(name, spec, values, timed.metric_) : Status::BadUnit;
+    }
+    template <typename Unit>
+    Timed<Unit> linear(std::string_view name, Bound<Unit> minimum, Bound<Unit> maximum, std::uint32_t buckets) {
+        return timed<Unit>(name, {POVUNDIRI_LINEAR, minimum.get(), maximum.get(), buckets}, {});
+    }
+    template <typename Unit>
+    Timed<Unit> custom(std::string_view name, Span<const Bound<Unit>> values) {
+        std::vector<std::uint32_t> numbers;
+        for (const Bound<Unit>& value : values) numbers.push_back(value.get());
+        return timed<Unit>(name, {POVUNDIRI_CUSTOM, 0, 0, 0}, numbers);
+    }
+    template <typename Unit>
+    Timed<Unit> scale(std::string_view name, Bound<Unit> minimum, Bound<Unit> maximum, std::uint32_t bits) {
+        return timed<Unit>(name, {POVUNDIRI_SCALE, minimum.get(), maximum.get(), bits}, {});
+    }
+
+    // A counter. Its name ends with "_total" before its labels: BadName else, which 'try_counter' returns.
+    Counter counter(std::string_view name) {
+        detail::need_total(name);
+        return Counter(boolean(name));
+    }
+    [[nodiscard]] Status try_counter(std::string_view name, Counter& counter) noexcept {
+        return detail::is_total(name) ? try_hist(name, {POVUNDIRI_BOOLEAN, 0, 0, 0}, {}, counter.metric_) : Status::RefusedBadName;
+    }
+
+    // Families: a metric for each set of values of these keys, of which it has at most 'most', and one whose values are all "_other". They
+    // are to fit in a segment together (povundiri_recording.h): 64 scales from 1 to 10,000,000 with 5 bits fill the usual 1 MiB. BadName is
+    // thrown if the base and the keys make no name.
+    template <typename Unit>
+    Family<Timed<Unit>> scale_family(std::string_view base, Span<const std::string_view> keys, Bound<Unit> minimum, Bound<Unit> maximum,
+                                     std::uint32_t bits, std::size_t most) {
+        if (!detail::may_count_in<Unit>(base)) detail::need(Status::BadUnit, "family", base);
+        return family<Timed<Unit>>(base, keys, {POVUNDIRI_SCALE, minimum.get(), maximum.get(), bits}, most);
+    }
+    Family<Metric> scale_family(std::string_view base, Span<const std::string_view> keys, std::uint32_t minimum, std::uint32_t maximum,
+                                std::uint32_t bits, std::size_t most) {
+        return family<Metric>(base, keys, {POVUNDIRI_SCALE, minimum, maximum, bits}, most);
+    }
+    Family<Counter> counter_family(std::string_view base, Span<const std::string_view> keys, std::size_t most) {
+        detail::need_total(base);
+        return family<Counter>(base, keys, {POVUNDIRI_BOOLEAN, 0, 0, 0}, most);
+    }
+
     // How many units this process has missed: for a reason, and for all.
     std::uint64_t missed(Missed reason) const noexcept {
         return povundiri_recording_missed(recording_, static_cast<std::uint32_t>(reason));
     }
     std::uint64_t missed() const noexcept {
         std::uint64_t all = 0;
-        for (std::uint32_t reason = 0; povundiri_missed_text(reason) != nullptr; ++reason) all += povundiri_recording_missed(recording_, reason);
+        for (std::uint32_t reason = 0; povundiri_missed_text(reason) != nullptr; ++reason) {
+            const std::uint64_t more = povundiri_recording_missed(recording_, reason);
+            all = more < UINT64_MAX - all ? all + more : UINT64_MAX;
+        }
         return all;
+    }
+
+    // Adds what came of a child's segment, by its image: what that has above what the follower has noted, if it costs at most so many units
+    // (povundiri_recording_follow). A status that comes with a 'report.name' is that of a histogram which was left out, until a later call
+    // adds it; the others are added. With another one nothing has happened, and 'follow' throws.
+    [[nodiscard]] Status try_follow(Follower& follower, Span<const std::uint64_t> words, std::uint64_t most, MergeReport& report) noexcept {
+        report = {};
+        report.size = sizeof report;
+        return follower.with(
+            [&] { return povundiri_recording_follow(recording_, &follower.handle_, words.data(), words.size(), most, &report); });
+    }
+    MergeReport follow(Follower& follower, Span<const std::uint64_t> words, std::uint64_t most) {
+        MergeReport report;
+        const Status status = try_follow(follower, words, most, report);
+        if (report.name[0] == '\0') detail::need(status, "follow, words", words.size());
+        return report;
+    }
+
+    // Adds what no delta took of the image of a dead segment, once (povundiri_recording_merge); the rest as above.
+    [[nodiscard]] Status try_merge(Span<const std::uint64_t> words, std::uint64_t most_keys, MergeReport& report) noexcept {
+        report = {};
+        report.size = sizeof report;
+        return static_cast<Status>(povundiri_recording_merge(recording_, words.data(), words.size(), most_keys, &report));
+    }
+    MergeReport merge(Span<const std::uint64_t> words, std::uint64_t most_keys) {
+        MergeReport report;
+        const Status status = try_merge(words, most_keys, report);
+        if (report.name[0] == '\0') detail::need(status, "merge, words", words.size());
+        return report;
+    }
+
+    // Notes an image and adds nothing: the units that it has above what was noted are missed, as Child. It returns how many.
+    [[nodiscard]] Status try_give_up(Follower& follower, Span<const std::uint64_t> words, std::uint64_t& units) noexcept {
+        MergeReport report = {};
+        report.size = sizeof report;
+        const Status status = follower.with(
+            [&] { return povundiri_recording_give_up(recording_, &follower.handle_, words.data(), words.size(), &report); });
+        units = report.left;
+        return status;
+    }
+    std::uint64_t give_up(Follower& follower, Span<const std::uint64_t> words) {
+        std::uint64_t units = 0;
+        detail::need(try_give_up(follower, words, units), "give_up, words", words.size());
+        return units;
     }
 
     // What the folder has: its report as CSV, its metrics for Prometheus, its text for people. They fail with Busy if folds have ended
@@ -187,11 +263,11 @@ public:
         return code(status, fault);
     }
 
-private:
-    static bool is_made(Status status) noexcept {
-        return status == Status::Done || status == Status::RefusedOtherSpec || status == Status::RefusedTooLarge;
-    }
+    // Makes the spare, looks for the present segment and folds if that is due: for a thread of its own, each second or so. Status::System is of
+    // the fold, which 'try_fold' says.
+    Status maintain() noexcept { return static_cast<Status>(povundiri_recording_maintain(recording_)); }
 
+private:
     static std::error_code code(std::uint32_t status, int fault) noexcept {
         if (status == POVUNDIRI_SYSTEM) return {fault, std::generic_category()};
         return static_cast<Status>(status);
@@ -200,8 +276,23 @@ private:
     Metric made(std::string_view name, povundiri_spec spec, Span<const std::uint32_t> values) {
         Metric metric;
         const Status status = try_hist(name, spec, values, metric);
-        if (!is_made(status)) detail::need(status, "hist", name);
+        if (!Metric::is_made(status)) detail::need(status, "hist", name);
         return metric;
+    }
+
+    template <typename Unit>
+    Timed<Unit> timed(std::string_view name, povundiri_spec spec, Span<const std::uint32_t> values) {
+        if (!detail::may_count_in<Unit>(name)) detail::need(Status::BadUnit, "hist", name);
+        return Timed<Unit>(made(name, spec, values));
+    }
+
+    template <typename M>
+    Family<M> family(std::string_view base, Span<const std::string_view> keys, povundiri_spec spec, std::size_t most) {
+        const auto state = std::make_shared<detail::FamilyState>(recording_, base, keys, spec, most);
+        std::vector<Label> others;
+        for (const std::string_view key : keys) others.push_back({key, detail::kOther});
+        state->set_other(made(povundiri::name(base, others), spec, {}));
+        return Family<M>(state);
     }
 
     template <typename Call>

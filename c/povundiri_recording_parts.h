@@ -7,12 +7,23 @@
 #include "povundiri_recording.h"
 
 /* How many reasons there are. */
-enum { MISSED_REASONS = POVUNDIRI_MISSED_REMOVED + 1 };
+enum { MISSED_REASONS = POVUNDIRI_MISSED_VALUES + 1 };
 
 /* Its folder, by a descriptor of the caller's own, after a look at whether the present segment is there. 0, or the system's fault. */
 int povundiri_recording_folder(struct povundiri_recording *recording, struct povundiri_held *held);
 
-uint64_t povundiri_recording_fold_at(const struct povundiri_recording *recording);
+/* Folds, if the folder has `fold_at` segments or more: as povundiri_recording_fold, and POVUNDIRI_DONE if it has not. */
+uint32_t povundiri_recording_fold_if_due(struct povundiri_recording *recording);
+
+/* Which values a sparse metric had in this process, `most` of them at most, from 1 to 2^32 - 1. Any thread may call it at any time; it takes
+ * no lock and no memory. */
+struct povundiri_distinct;
+
+/* Of none yet, for free(); null if there is no memory. */
+struct povundiri_distinct *povundiri_distinct_new(uint64_t most);
+
+/* Whether it had this value, or has it from now on. */
+bool povundiri_distinct_take(struct povundiri_distinct *distinct, int32_t value);
 
 /* A histogram that was asked for. */
 struct povundiri_metric {
@@ -21,18 +32,23 @@ struct povundiri_metric {
     struct povundiri_spec spec;
     uint32_t *values;
     size_t count;
+    struct povundiri_distinct *distinct; /* of a sparse one, if its values are bounded; else null */
     bool is_too_large; /* a segment of the present size without any other has no room for it: then none is begun for it */
 };
 
-/* All of them, by number. It begins as zeros, and is for one thread at a time. */
+/* All of them, by number. It begins as zeros but for `most_values`, and is for one thread at a time. */
 struct povundiri_metrics {
     struct povundiri_metric **all;
     size_t count;
+    uint64_t most_values; /* of each sparse one; with 2^32 or more there is no bound */
 };
 
 /* Whether there is one of this name and spec; then *metric is its number. Of a spec without values `count` is 0. */
 bool povundiri_metrics_find(const struct povundiri_metrics *metrics, const char *name, size_t length, struct povundiri_spec spec,
                             const uint32_t *values, size_t count, size_t *metric);
+
+/* Whether both have the same name. */
+bool povundiri_metrics_have_one_name(const struct povundiri_metric *one, const struct povundiri_metric *other);
 
 /* Puts one after the others, and says whether it is too large for segments of this shape. If no histogram may have this name and spec, or
  * there is no memory, that is returned, and nothing has changed. */

@@ -1,4 +1,5 @@
-/* What povundiri_recording.c and povundiri_segments.c have in common: a recording. It is not installed. */
+/* What povundiri_recording.c, povundiri_recording_children.c, povundiri_segments.c and povundiri_maintain.c have in common: a recording. It
+ * is not installed. */
 #ifndef POVUNDIRI_RECORDING_STATE_H
 #define POVUNDIRI_RECORDING_STATE_H
 
@@ -17,14 +18,23 @@ enum { LINES = 128 };
 /* In place of the number of a histogram that was not asked for in this segment. No recorder knows it. */
 #define NOT_ASKED SIZE_MAX
 
+/* How often a sample, or what a child counted, is tried again in a new segment. */
+enum { MOST_TRIES = 8 };
+
+/* A histogram in a segment, of a recorder. */
+struct asked {
+    size_t hist;                         /* or NOT_ASKED */
+    struct povundiri_distinct *distinct; /* its values, if they are bounded; else null */
+};
+
 /* What a thread has of a recording; or what the threads above the most share. */
 struct local {
     uint64_t turn; /* that of the segment which its recorder is of */
-    size_t known;  /* how many metrics `hists` has room for */
+    size_t known;  /* how many metrics `asked` has room for */
     struct povundiri_handle recorder;
     struct povundiri_owned *owned;
     struct povundiri_recording *recording;
-    size_t hists[]; /* by metric */
+    struct asked asked[]; /* by metric */
 };
 
 enum state { RECORDS, HAS_ENDED, IS_FORKED };
@@ -55,8 +65,14 @@ struct povundiri_recording {
     uint64_t turns;               /* how many segments it had */
     uint64_t began_at;            /* when the present one was begun, in nanoseconds; 0: by another process */
     enum fit fit;                 /* of the present one */
+    bool has_childs;              /* children's numbers were added to it, or found no room there */
+    size_t following;             /* how many threads add children's numbers, without the mutex */
+    uint64_t follow_at;           /* when children's numbers may be added again, since they have filled one */
     uint64_t refusals;            /* how often a segment was refused since one was made */
     uint64_t again_at;            /* when one may be made again then */
+    bool lacks_room;              /* the device, a quota or the folder was full, and nothing was folded since */
+    bool is_making_room;          /* some thread folds, since there is no room for a segment */
+    pthread_cond_t room;          /* it does so no longer */
     bool is_preparing;            /* some thread makes a spare */
     uint64_t looked_at;           /* when it was last seen whether the present one has its name */
 };
@@ -65,16 +81,22 @@ static inline void miss(struct povundiri_recording *recording, enum povundiri_mi
     __atomic_fetch_add(&recording->missed[reason], count, __ATOMIC_RELAXED);
 }
 
+/* Whether the present segment may have children's numbers, which this program did not count. */
+static inline bool may_have_childs(const struct povundiri_recording *recording) {
+    return recording->has_childs || recording->following > 0;
+}
+
 static inline void set_turn(struct povundiri_recording *recording, uint64_t turn) {
     __atomic_store_n(&recording->turn, turn, __ATOMIC_RELAXED);
 }
 
 /* It has no recorder from now on. */
 static inline void clear(struct local *local) {
+    const struct asked none = {NOT_ASKED, NULL};
     size_t i;
     local->turn = NO_RECORDER;
     local->owned = NULL;
-    for (i = 0; i < local->known; i += 1) local->hists[i] = NOT_ASKED;
+    for (i = 0; i < local->known; i += 1) local->asked[i] = none;
 }
 
 /* The time, in nanoseconds. */
@@ -106,7 +128,34 @@ enum rolled { BEGUN, TOO_SOON, REFUSED };
 /* Begins the next segment, since the present one has refused a sample, with this status. */
 enum rolled povundiri_segments_roll(struct povundiri_recording *recording, uint32_t status);
 
+/* The same, since it has refused what a child counted. */
+enum rolled povundiri_segments_roll_for_child(struct povundiri_recording *recording, uint32_t status);
+
+/* What to count with in the present segment: this thread's own recorder, with as many units as that has, or the shared one. */
+uint32_t povundiri_counting_join(struct povundiri_recording *recording, uint32_t count, struct local **local);
+
+/* Finds the histogram of a metric in the present segment, once for a recorder, and makes it if it is not there. */
+uint32_t povundiri_counting_find(struct povundiri_recording *recording, struct local **local, size_t metric);
+
+/* Lends a recorder of the present segment what a sample of so many units needs. False if the segment has too few. */
+bool povundiri_counting_lend(struct povundiri_recording *recording, struct local *local, uint32_t count);
+
+/* Gives back what this thread has of the recording. */
+void povundiri_counting_leave(struct povundiri_recording *recording);
+
+/* Whether a later segment may count what the present one has refused. */
+static inline bool is_spent(uint32_t status) {
+    return status == POVUNDIRI_REFUSED_FULL || status == POVUNDIRI_REFUSED_NO_UNITS || status == POVUNDIRI_REFUSED_CORRUPT;
+}
+
+/* Folds, so that there is room for a segment, or waits until another thread has done so. Whether there may be room now. It gives up the mutex
+ * meanwhile. */
+bool povundiri_recording_make_room(struct povundiri_recording *recording);
+
 /* ---- Without the mutex ---- */
+
+/* Folds, if the folder has four times `fold_at` segments or more. */
+void povundiri_recording_fold_if_many(struct povundiri_recording *recording);
 
 /* Makes the next spare, if there is none and nobody else makes it. */
 void povundiri_segments_prepare(struct povundiri_recording *recording);

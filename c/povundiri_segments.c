@@ -86,8 +86,17 @@ static void make_current(struct povundiri_recording *recording, struct povundiri
     recording->current = owned;
     recording->began_at = began_at;
     recording->fit = FITS;
+    recording->has_childs = false;
     recording->turns += 1;
     set_turn(recording, __atomic_add_fetch(&last_turn, 1, __ATOMIC_RELAXED));
+}
+
+/* EDQUOT if a segment of this shape is too much for the folder, as the options have it. */
+static int look_for_room(const struct povundiri_recording *recording, const struct povundiri_place *place, struct povundiri_shape shape) {
+    const uint64_t most = recording->options.most_bytes, own = povundiri_file_bytes(shape.size, (size_t)shape.cursors);
+    uint64_t bytes = 0;
+    const int fault = most == 0 ? 0 : povundiri_parts_bytes(place->is_open ? place->held.descriptor : -1, &bytes);
+    return fault == 0 && most > 0 && (own > most || bytes > most - own) ? EDQUOT : fault;
 }
 
 /* Makes a spare of this shape, with an id of its own. */
@@ -95,19 +104,25 @@ static struct povundiri_owned *new_spare(const struct povundiri_recording *recor
                                          struct povundiri_shape shape, int *fault) {
     struct povundiri_owned *spare = NULL;
     uint32_t status;
+    *fault = look_for_room(recording, place, shape);
+    if (*fault != 0) return NULL;
     shape.id = random_of(recording);
     status = povundiri_folder_spare(place, shape, random_of(recording), &spare, fault);
     if (status != POVUNDIRI_DONE && *fault == 0) *fault = ENOMEM;
     return spare;
 }
 
+/* Whether a fold may help: the device, a quota or the folder is full. */
+static bool is_full(int fault) { return fault == ENOSPC || fault == EDQUOT; }
+
 /* Sets when a segment may be made again, since the system has refused one. Whether that is at once. */
 static bool is_tried_again(struct povundiri_recording *recording, int fault) {
-    const bool is_lasting = fault == ENOSPC || fault == EDQUOT || fault == EROFS || fault == EACCES || fault == ENOENT;
+    const bool is_lasting = is_full(fault) || fault == EROFS || fault == EACCES || fault == ENOENT;
     const uint64_t before = recording->refusals;
     uint64_t wait = before < AT_ONCE ? 0 : SECOND;
     if (before >= AT_ONCE && before < AT_ONCE + 7) wait = (uint64_t)FIRST_WAIT << (before - AT_ONCE);
     if (is_lasting) wait = SECOND;
+    if (is_full(fault)) recording->lacks_room = true;
     recording->refusals += 1;
     recording->again_at = povundiri_segments_now() + wait;
     return wait == 0;
@@ -150,7 +165,10 @@ int povundiri_segments_begin_next(struct povundiri_recording *recording) {
     do {
         fault = begin_once(recording);
     } while (fault != 0 && is_tried_again(recording, fault));
-    if (fault == 0) recording->refusals = 0;
+    if (fault == 0) {
+        recording->refusals = 0;
+        recording->lacks_room = false;
+    }
     return fault;
 }
 
@@ -177,18 +195,33 @@ static int grow(struct povundiri_recording *recording) {
     return 0;
 }
 
+/* How old the present segment has to be before the next one is begun, since it has refused something with this status. */
+static uint64_t least_age(const struct povundiri_recording *recording, uint32_t status) {
+    const uint64_t apart = recording->turns > 1 ? recording->options.apart : 0;
+    return recording->bytes == LARGEST && status == POVUNDIRI_REFUSED_FULL && apart < SECOND ? SECOND : apart;
+}
+
 /* The next one is larger where this one is too small; where that is refused, it is as large as this one, and comes a second later. */
-enum rolled povundiri_segments_roll(struct povundiri_recording *recording, uint32_t status) {
+static enum rolled roll(struct povundiri_recording *recording, uint32_t status, bool is_for_child) {
     const uint64_t age = recording->began_at == 0 ? UINT64_MAX : povundiri_segments_now() - recording->began_at;
-    const bool is_full_early = status == POVUNDIRI_REFUSED_FULL && age < SECOND;
-    if (is_full_early && recording->fit == FITS) recording->fit = IS_TOO_SMALL;
-    if (recording->turns > 1 && age < recording->options.apart) return TOO_SOON;
-    if (recording->bytes == LARGEST && is_full_early) return TOO_SOON;
+    const uint64_t least = least_age(recording, status);
+    if (status == POVUNDIRI_REFUSED_FULL && age < SECOND && recording->fit == FITS) recording->fit = IS_TOO_SMALL;
+    if (age < least) {
+        if (may_have_childs(recording)) recording->follow_at = recording->began_at + least;
+        if (is_for_child || !may_have_childs(recording)) return TOO_SOON;
+    }
     if (recording->fit == IS_TOO_SMALL && recording->bytes < LARGEST && grow(recording) != 0) {
         recording->fit = MAY_NOT_GROW;
         return REFUSED;
     }
     return povundiri_segments_begin_next(recording) == 0 ? BEGUN : REFUSED;
+}
+
+/* A sample does not wait for what children have filled: they wait, and are in no segment before. */
+enum rolled povundiri_segments_roll(struct povundiri_recording *recording, uint32_t status) { return roll(recording, status, false); }
+
+enum rolled povundiri_segments_roll_for_child(struct povundiri_recording *recording, uint32_t status) {
+    return roll(recording, status, true);
 }
 
 /* If the present segment has lost its name, it counts no longer. Then the next one is begun, if the system lets it. */
@@ -227,6 +260,11 @@ void povundiri_segments_prepare(struct povundiri_recording *recording) {
     if (!begins_to_prepare(recording, &place, &shape)) return;
     spare = new_spare(recording, &place, shape, &fault);
     pthread_mutex_lock(&recording->mutex);
+    if (spare == NULL && is_full(fault) && povundiri_recording_make_room(recording)) {
+        pthread_mutex_unlock(&recording->mutex);
+        spare = new_spare(recording, &place, shape, &fault);
+        pthread_mutex_lock(&recording->mutex);
+    }
     recording->is_preparing = false;
     if (place.names_spares) recording->folder.names_spares = true;
     if (spare == NULL) (void)is_tried_again(recording, fault);
@@ -238,6 +276,7 @@ void povundiri_segments_prepare(struct povundiri_recording *recording) {
     pthread_mutex_unlock(&recording->mutex);
     povundiri_folder_release(&place, spare);
     povundiri_place_leave(&place);
+    povundiri_recording_fold_if_many(recording);
 }
 
 /* ---- Beginning ---- */
@@ -252,6 +291,7 @@ void povundiri_segments_begin_first(struct povundiri_recording *recording) {
         began->adopted = found.is_adopted;
     } else {
         began->fault = povundiri_segments_begin_next(recording);
+        if (recording->lacks_room && povundiri_recording_make_room(recording)) began->fault = povundiri_segments_begin_next(recording);
     }
     began->refused = found.refused;
     memcpy(began->set_aside, found.set_aside, sizeof found.set_aside);

@@ -30,12 +30,19 @@ enum class Status : std::uint32_t {
     NoMemory = POVUNDIRI_NO_MEMORY,
     Elsewhere = POVUNDIRI_ELSEWHERE,
     Busy = POVUNDIRI_BUSY,
-    System = POVUNDIRI_SYSTEM,  // no call of these classes returns it: 'open' returns the system's fault itself
+    System = POVUNDIRI_SYSTEM,  // of these classes Recording::maintain alone returns it: 'open' returns the system's fault itself
     TooManyKeys = POVUNDIRI_TOO_MANY_KEYS,
     BadPrefix = POVUNDIRI_BAD_PREFIX,
     TooMany = POVUNDIRI_TOO_MANY,
     BadTotals = POVUNDIRI_BAD_TOTALS,
+    Fell = POVUNDIRI_FELL,
+    CostsMore = POVUNDIRI_COSTS_MORE,
+    NotOwner = POVUNDIRI_NOT_OWNER,
+    FolderInUse = POVUNDIRI_FOLDER_IN_USE,
+    NoRecording = POVUNDIRI_NO_RECORDING,
+    BadOptions = POVUNDIRI_BAD_OPTIONS,
     Forked = 99,                // of these classes alone: the segment or recorder is of a process from which this one was forked
+    BadUnit = 98,               // of these classes alone: a name says another unit than that of its metric of times
 
     RefusedBadName = POVUNDIRI_REFUSED_BAD_NAME,
     RefusedBadSpec = POVUNDIRI_REFUSED_BAD_SPEC,
@@ -81,7 +88,8 @@ enum class Status : std::uint32_t {
 
 // The name of a status, which no other has; of any number. 'persist_report explain' says what it means.
 inline const char* text(Status status) noexcept {
-    return status == Status::Forked ? "Forked" : povundiri_status_text(static_cast<std::uint32_t>(status));
+    if (status == Status::Forked) return "Forked";
+    return status == Status::BadUnit ? "BadUnit" : povundiri_status_text(static_cast<std::uint32_t>(status));
 }
 
 // The category of statuses as error codes.

@@ -3,7 +3,6 @@
 #define POVUNDIRI_VALUES_HPP
 
 #include <algorithm>
-#include <chrono>
 #include <cstddef>
 #include <cstdint>
 #include <initializer_list>
@@ -17,6 +16,7 @@
 
 #include "povundiri.h"
 #include "povundiri_status.hpp"
+#include "povundiri_time.hpp"
 
 namespace povundiri {
 
@@ -70,14 +70,12 @@ private:
     std::size_t size_ = 0;
 };
 
-// The value of a sample: any integer, or the ticks of a duration in its own unit. What 32 bits do not hold becomes the nearest that
-// they do, and a duration that is not a number 0.
+// The value of a sample: any integer. What 32 bits do not hold becomes the nearest that they do. Of a time it is the number of ticks of a
+// unit: povundiri::ticks<std::chrono::microseconds>(time).
 class Value {
 public:
     template <typename Number, std::enable_if_t<std::is_integral_v<Number>, int> = 0>
     constexpr Value(Number number) noexcept : value_(saturated(number)) {}
-    template <typename Ticks, typename Period>
-    constexpr Value(std::chrono::duration<Ticks, Period> time) noexcept : value_(saturated(time.count())) {}
 
     constexpr std::int32_t get() const noexcept { return value_; }
 
@@ -86,12 +84,8 @@ private:
 
     template <typename Number>
     static constexpr std::int32_t saturated(Number number) noexcept {
-        static_assert(std::is_floating_point_v<Number> || sizeof(Number) <= sizeof(std::intmax_t));
-        if constexpr (std::is_floating_point_v<Number>) {
-            if (number >= static_cast<Number>(kGreatest)) return kGreatest;
-            if (number <= static_cast<Number>(kLeast)) return kLeast;
-            return number < static_cast<Number>(kGreatest) ? static_cast<std::int32_t>(number) : 0;
-        } else if constexpr (std::is_signed_v<Number>) {
+        static_assert(sizeof(Number) <= sizeof(std::intmax_t));
+        if constexpr (std::is_signed_v<Number>) {
             return static_cast<std::int32_t>(std::clamp<std::intmax_t>(number, kLeast, kGreatest));
         } else {
             return static_cast<std::int32_t>(std::min<std::uintmax_t>(number, static_cast<std::uintmax_t>(kGreatest)));

@@ -262,6 +262,57 @@ void merges_stop() {
     HOLDS(units < 7);
 }
 
+// A follower adds an image once, and borrows the units that it costs. One that was moved from begins again.
+void followers() {
+    const std::vector<std::uint64_t> image = image_to_add();
+    Segment segment;
+    Recorder recorder, none;
+    povundiri::Follower follower(4), strict(3);
+    povundiri::MergeReport report;
+    std::uint64_t units = 9;
+    RETURNS(Empty, follower.try_merge(none, image, 7, report));
+    DONE(Segment::try_create(kShape, segment));
+    DONE(segment.try_recorder(recorder, 6));
+    RETURNS(TooManyKeys, strict.try_merge(recorder, image, 7, report));
+    RETURNS(ImageTooShort, follower.try_skip({image.data(), 15}, units));
+    RETURNS(CostsMore, follower.try_merge(recorder, image, 6, report));
+    HOLDS(units == 9 && report.added == 0 && report.cost == 7 && report.name[0] == 0);
+    DONE(follower.try_merge(recorder, image, 7, report));
+    HOLDS(report.added == 7 && report.left == 0 && report.cost == 7 && report.passed == 0);
+    povundiri::Follower moved(std::move(follower));
+    DONE(moved.try_merge(recorder, image, 0, report));
+    HOLDS(report.added == 0 && report.cost == 0);
+    DONE(follower.try_skip(image, units));
+    HOLDS(units == 7);
+    follower = std::move(moved);
+    DONE(follower.try_skip(image, units));
+    HOLDS(units == 0);
+    follower.reset();
+    DONE(follower.try_skip(image, units));
+    HOLDS(units == 7);
+}
+
+// A segment with too few units has none taken; a histogram of another spec is left out, and the others are added.
+void followers_pass_over() {
+    const std::vector<std::uint64_t> image = image_to_add();
+    Segment segment, other;
+    Recorder recorder, second;
+    Hist hist;
+    povundiri::Follower follower(4);
+    povundiri::MergeReport report;
+    DONE(Segment::try_create(kShape, segment));
+    DONE(segment.try_recorder(recorder, 1));
+    DONE(recorder.try_boolean("b", hist));
+    DONE(recorder.try_add(hist, 1, UINT32_MAX - 6));
+    RETURNS(RefusedNoUnits, follower.try_merge(recorder, image, 7, report));
+    HOLDS(report.added == 0 && report.cost == 7 && report.stopped == POVUNDIRI_DONE && report.name[0] == 0);
+    DONE(Segment::try_create(kShape, other));
+    DONE(other.try_recorder(second, 1));
+    DONE(second.try_sparse("b", hist));
+    RETURNS(RefusedOtherSpec, follower.try_merge(second, image, 7, report));
+    HOLDS(report.added == 2 && report.left == 5 && report.passed == 1 && std::string(report.name) == "b");
+}
+
 void corrupt() {
     Segment segment;
     Recorder recorder;
@@ -532,6 +583,8 @@ int main() {
     failed += group("sums", sums);
     failed += group("merges", merges);
     failed += group("merges stop", merges_stop);
+    failed += group("followers", followers);
+    failed += group("followers pass over", followers_pass_over);
     failed += group("corrupt", corrupt);
     failed += group("moves", moves);
     failed += group("names", names);

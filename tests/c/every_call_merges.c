@@ -128,7 +128,7 @@ static void sizes_of_reports(void) {
 /* What the delta took is not added: of the three samples that of value 0. The image has used three units. */
 static void what_no_delta_took(void) {
     struct povundiri_handle segment = segment_of(USUAL, SMALL_PAGE, 2), recorder = recorder_of(&segment, MANY);
-    struct povundiri_merge_report report = {sizeof report, 0, 0, 0, 0, 0, 0, false, false, ""};
+    struct povundiri_merge_report report = {sizeof report, 0, 0, 0, 0, 0, 0, 0, false, false, ""};
     uint64_t words[WORDS], image[WORDS];
     size_t length = image_of_three(words, true, 2);
     memcpy(image, words, sizeof *words * length);

@@ -47,7 +47,7 @@ static const struct povundiri_file_options KEPT = {sizeof KEPT, POVUNDIRI_FILE_K
 static void child_that_ends(void) {
     struct povundiri_file file = {0};
     struct povundiri_handle segment = {0};
-    struct povundiri_opened opened;
+    struct povundiri_opened opened = POVUNDIRI_OPENED;
     int by_exit;
     unlink(path_of("ends"));
     DONE(povundiri_open(path_of("ends"), shape_of(WORDS), POVUNDIRI_ADOPT_OR_FAIL, NULL, &file, &segment, &opened));
@@ -117,7 +117,7 @@ static void count_in_child(struct povundiri_handle *segment) {
 /* The parent ends, by a kill, and a child of it lives on: it spends no units, and the file can be opened. */
 static void child_that_lives_on(void) {
     struct gate ready = new_gate(), stop = new_gate();
-    struct povundiri_opened opened;
+    struct povundiri_opened opened = POVUNDIRI_OPENED;
     pid_t parent;
     make_segment("lives_on", 5);
     parent = fork();
@@ -152,7 +152,7 @@ static void serve(int number, const struct povundiri_file *of_parent, uint64_t p
     char name[32];
     struct povundiri_file file = {0};
     struct povundiri_handle segment = {0};
-    struct povundiri_opened opened;
+    struct povundiri_opened opened = POVUNDIRI_OPENED;
     int i;
     snprintf(name, sizeof name, "worker_%d", number);
     HOLDS(!povundiri_file_is_open(of_parent) && povundiri_fork_generation() != parents_generation);
@@ -166,7 +166,7 @@ static void serve(int number, const struct povundiri_file *of_parent, uint64_t p
 static void pre_fork_server(void) {
     struct povundiri_file file = {0};
     struct povundiri_handle segment = {0};
-    struct povundiri_opened opened;
+    struct povundiri_opened opened = POVUNDIRI_OPENED;
     const uint64_t generation = povundiri_fork_generation();
     pid_t children[WORKERS];
     char name[32];
@@ -195,7 +195,7 @@ static void pre_fork_server(void) {
 static void become_daemon(const struct gate *ready, const struct gate *stop, const struct gate *last, bool leaves) {
     struct povundiri_file file = {0};
     struct povundiri_handle segment = {0};
-    struct povundiri_opened opened;
+    struct povundiri_opened opened = POVUNDIRI_OPENED;
     DONE(povundiri_open(path_of("daemon"), shape_of(WORDS), POVUNDIRI_ADOPT_OR_FAIL, &KEPT, &file, &segment, &opened));
     count_units(&segment, 2);
     HOLDS(daemon(1, 1) == 0);
@@ -218,7 +218,7 @@ static void become_daemon(const struct gate *ready, const struct gate *stop, con
 
 static void run_daemon(bool leaves) {
     struct gate ready = new_gate(), stop = new_gate(), last = new_gate(), alive = new_gate();
-    struct povundiri_opened opened;
+    struct povundiri_opened opened = POVUNDIRI_OPENED;
     pid_t child;
     unlink(path_of("daemon"));
     child = fork();

@@ -53,7 +53,7 @@ int test_ftruncate(int descriptor, off_t length) {
 
 static void second_open(void) {
     struct povundiri_file file = {0}, other = {0};
-    struct povundiri_opened opened;
+    struct povundiri_opened opened = POVUNDIRI_OPENED;
     int64_t began;
     make_segment("twice", 5);
     HOLDS(open_file(&file, "twice") == 0);
@@ -131,7 +131,7 @@ static uint32_t open_while_probed(int how) {
 }
 
 static void readers_that_probe(void) {
-    struct povundiri_opened opened;
+    struct povundiri_opened opened = POVUNDIRI_OPENED;
     pid_t child;
     make_segment("probed", 5);
     DONE(open_while_probed(LOCK_SH));
@@ -196,7 +196,7 @@ static void set_it_aside_and_make_one(void) {
 /* The same if that happens between the opening and the lock. */
 static void other_file_before_the_lock(void) {
     static void (*const happens[])(void) = {set_it_aside, set_it_aside_and_make_one};
-    struct povundiri_opened opened;
+    struct povundiri_opened opened = POVUNDIRI_OPENED;
     size_t i;
     for (i = 0; i < 2; i += 1) {
         make_segment("between", 5);
@@ -254,7 +254,7 @@ static void signal_storm(void) {
 
 /* Each call to the system is interrupted three times before it is made. */
 static void interrupted_calls(void) {
-    struct povundiri_opened opened;
+    struct povundiri_opened opened = POVUNDIRI_OPENED;
     const uint64_t wrong = 16; /* the free pointer, before the record */
     interruptions = 3;
     unlink(path_of("interrupted"));
@@ -271,7 +271,7 @@ static void interrupted_calls(void) {
 /* ---- Limits and full devices ---- */
 
 static void limit_of_length(void) {
-    struct povundiri_opened opened;
+    struct povundiri_opened opened = POVUNDIRI_OPENED;
     pid_t child = fork();
     if (child == 0) {
         const struct rlimit limit = {8223, 8223};
@@ -309,7 +309,7 @@ static void fill(const char *name) {
 
 /* A file that was cut off is judged by the bytes that it has: no room is asked for those that are missing. */
 static void cut_on_full_device(void) {
-    struct povundiri_opened opened;
+    struct povundiri_opened opened = POVUNDIRI_OPENED;
     make_segment("cut", 5);
     HOLDS(truncate(path_of("cut"), 4104) == 0);
     fill("rest");
@@ -320,7 +320,7 @@ static void cut_on_full_device(void) {
 
 static void full_device(void) {
     struct povundiri_file file = {0};
-    struct povundiri_opened opened;
+    struct povundiri_opened opened = POVUNDIRI_OPENED;
     const char *before = folder;
     static char small[4096];
     snprintf(small, sizeof small, "%s", path_of("small"));

@@ -186,7 +186,7 @@ static unsigned char *damaged_file(const char *name, const struct damage *damage
 }
 
 static void refused_and_left(void) {
-    struct povundiri_opened opened;
+    struct povundiri_opened opened = POVUNDIRI_OPENED;
     size_t i, length;
     for (i = 0; i < DAMAGE_COUNT; i += 1) {
         unsigned char *before = damaged_file("left", &DAMAGES[i], &length);
@@ -199,7 +199,7 @@ static void refused_and_left(void) {
 }
 
 static void refused_and_set_aside(void) {
-    struct povundiri_opened opened;
+    struct povundiri_opened opened = POVUNDIRI_OPENED;
     size_t i, length;
     int policy;
     for (i = 0; i < DAMAGE_COUNT; i += 1) {
@@ -235,7 +235,7 @@ static int set_counts(const char *name, uint64_t count) {
 static void too_many_units(void) {
     struct povundiri_file file = {0};
     struct povundiri_handle segment = {0}, recorder = {0};
-    struct povundiri_opened opened;
+    struct povundiri_opened opened = POVUNDIRI_OPENED;
     size_t hist;
     make_segment("units", 5);
     HOLDS(set_counts("units", UINT32_MAX) == 1);
@@ -257,7 +257,7 @@ static void too_many_units(void) {
 
 /* A file that is cut keeps its length under its new name. */
 static void cut_and_set_aside(void) {
-    struct povundiri_opened opened;
+    struct povundiri_opened opened = POVUNDIRI_OPENED;
     unsigned char *before;
     size_t length;
     make_segment("cut", 5);
@@ -276,7 +276,7 @@ static void cut_and_set_aside(void) {
 /* The numbers count up within a second, and no file is written over, nor one that a link leads to. */
 static void numbers(void) {
     static const char text[] = "a file of somebody else";
-    struct povundiri_opened opened;
+    struct povundiri_opened opened = POVUNDIRI_OPENED;
     unsigned char *before;
     size_t length;
     int number, tries = 0;
@@ -316,7 +316,7 @@ static void without_renameat2(void) {
 
 /* A name that would be too long: nothing is renamed. */
 static void long_names(void) {
-    struct povundiri_opened opened;
+    struct povundiri_opened opened = POVUNDIRI_OPENED;
     unsigned char *before;
     char name[256];
     size_t length;
@@ -334,7 +334,7 @@ static void behind_a_link(void) {
     const struct povundiri_file_options follow = {sizeof follow, POVUNDIRI_FILE_FOLLOW, 0};
     struct povundiri_file file = {0};
     struct povundiri_handle segment = {0};
-    struct povundiri_opened opened;
+    struct povundiri_opened opened = POVUNDIRI_OPENED;
     char target[4096], found[4096];
     unsigned char *before;
     size_t length;
@@ -348,6 +348,29 @@ static void behind_a_link(void) {
     free(before);
 }
 
+/* What is told is as long as the caller says: as it was first with 0, and what comes after it is left as it is. */
+static void sizes(void) {
+    struct {
+        struct povundiri_opened known;
+        unsigned char later[16];
+    } larger;
+    size_t i, j;
+    for (i = 0; i < 3; i += 1) {
+        const size_t size = i == 0 ? 0 : i == 1 ? sizeof larger.known : sizeof larger;
+        struct povundiri_file file = {0};
+        struct povundiri_handle segment = {0};
+        memset(&larger, 0xA5, sizeof larger);
+        larger.known.size = size;
+        DONE(povundiri_open(path_of("sizes"), shape_of(WORDS), POVUNDIRI_ADOPT_OR_FAIL, NULL, &file, &segment, &larger.known));
+        HOLDS(larger.known.size == size && larger.known.fault == 0 && larger.known.refused == POVUNDIRI_DONE);
+        HOLDS(larger.known.outcome == (i == 0 ? POVUNDIRI_MADE : POVUNDIRI_ADOPTED) && larger.known.shape.size == WORDS);
+        HOLDS(!larger.known.spent && larger.known.units > 0 && larger.known.set_aside[0] == 0);
+        for (j = 0; j < sizeof larger.later; j += 1) HOLDS(larger.later[j] == 0xA5);
+        DONE(povundiri_drop(&segment));
+        povundiri_file_close(&file);
+    }
+}
+
 /* ---- What is not refused for good ---- */
 
 /* Calls that cannot be: no pointer, no policy, no valid shape, options that are none, or handles that are full. */
@@ -357,18 +380,24 @@ static void wrong_calls(const char *path, struct povundiri_shape invalid) {
     struct povundiri_shape many = shape;
     struct povundiri_file file = {0}, other = {0};
     struct povundiri_handle segment = {0}, heap = {0};
-    struct povundiri_opened opened;
+    struct povundiri_opened opened = POVUNDIRI_OPENED;
     many.cursors = 9;
     ANSWERS(NULL, povundiri_open(NULL, shape, POVUNDIRI_ADOPT_OR_SET_ASIDE, NULL, &file, &segment, &opened));
     ANSWERS(NULL, povundiri_open(path, shape, POVUNDIRI_ADOPT_OR_SET_ASIDE, NULL, NULL, &segment, &opened));
     ANSWERS(NULL, povundiri_open(path, shape, POVUNDIRI_ADOPT_OR_SET_ASIDE, NULL, &file, NULL, &opened));
     ANSWERS(NULL, povundiri_open(path, shape, POVUNDIRI_ADOPT_OR_SET_ASIDE, NULL, &file, &segment, NULL));
+    opened.size = sizeof opened - 1;
+    opened.fault = 77;
+    ANSWERS(SHORT, povundiri_open(path, shape, POVUNDIRI_ADOPT_OR_SET_ASIDE, NULL, &file, &segment, &opened));
+    HOLDS(opened.size == sizeof opened - 1 && opened.fault == 77 && !segment.held && !povundiri_file_is_open(&file));
+    opened.size = sizeof opened;
     ANSWERS(BAD_KIND, povundiri_open(path, shape, (enum povundiri_policy)0, NULL, &file, &segment, &opened));
+    HOLDS(opened.size == sizeof opened && opened.fault == 0);
     ANSWERS(OPEN_BAD_SHAPE, povundiri_open(path, invalid, POVUNDIRI_ADOPT_OR_SET_ASIDE, NULL, &file, &segment, &opened));
     ANSWERS(OPEN_BAD_CURSORS, povundiri_open(path, many, POVUNDIRI_ADOPT_OR_SET_ASIDE, NULL, &file, &segment, &opened));
-    ANSWERS(SYSTEM, povundiri_open(path, shape, POVUNDIRI_ADOPT_OR_SET_ASIDE, &wrong, &file, &segment, &opened));
-    ANSWERS(SYSTEM, povundiri_open(path, shape, POVUNDIRI_ADOPT_OR_SET_ASIDE, &short_ones, &file, &segment, &opened));
-    HOLDS(opened.fault == EINVAL && !segment.held && !povundiri_file_is_open(&file));
+    ANSWERS(BAD_OPTIONS, povundiri_open(path, shape, POVUNDIRI_ADOPT_OR_SET_ASIDE, &wrong, &file, &segment, &opened));
+    ANSWERS(BAD_OPTIONS, povundiri_open(path, shape, POVUNDIRI_ADOPT_OR_SET_ASIDE, &short_ones, &file, &segment, &opened));
+    HOLDS(opened.fault == 0 && !segment.held && !povundiri_file_is_open(&file));
     DONE(povundiri_create(shape, &heap));
     ANSWERS(NOT_EMPTY, povundiri_open(path, shape, POVUNDIRI_ADOPT_OR_SET_ASIDE, NULL, &file, &heap, &opened));
     DONE(povundiri_drop(&heap));
@@ -382,7 +411,7 @@ static void other_faults(void) {
     struct povundiri_shape invalid = shape;
     struct povundiri_file file = {0}, other = {0};
     struct povundiri_handle segment = {0};
-    struct povundiri_opened opened;
+    struct povundiri_opened opened = POVUNDIRI_OPENED;
     const char *path;
     unsigned char *before;
     size_t length;
@@ -410,7 +439,7 @@ static void other_shapes(void) {
     const struct povundiri_shape small = {512, 64, 8, 8, 2}, large = {4096, 1024, 7, 0, 2};
     struct povundiri_file file = {0};
     struct povundiri_handle segment = {0};
-    struct povundiri_opened opened;
+    struct povundiri_opened opened = POVUNDIRI_OPENED;
     make_segment("shape", 5);
     HOLDS(truncate(path_of("shape"), 8208) == 0);
     DONE(povundiri_open(path_of("shape"), small, POVUNDIRI_ADOPT_OR_SET_ASIDE, NULL, &file, &segment, &opened));
@@ -433,7 +462,7 @@ static void other_shapes(void) {
 
 /* A segment in which an allocation found no room is spent, and so is one without units. */
 static void spent(void) {
-    struct povundiri_opened opened;
+    struct povundiri_opened opened = POVUNDIRI_OPENED;
     unsigned char *before;
     const uint64_t full = 2;
     size_t length;
@@ -476,7 +505,7 @@ static unsigned char *begin(enum start start, size_t *length) {
 
 /* After a stop the next call succeeds, and no unit is lost. */
 static void next_start(enum start start, const unsigned char *before, size_t length) {
-    struct povundiri_opened opened;
+    struct povundiri_opened opened = POVUNDIRI_OPENED;
     DONE(open_and_count("at_each", POVUNDIRI_ADOPT_OR_BEGIN_ANEW, 1, &opened));
     if (start == IS_DAMAGED) HOLDS(with_bytes("at_each.damaged-", before, length) >= 1);
     if (start == IS_SPENT) HOLDS(with_bytes("at_each.full-", before, length) >= 1);
@@ -492,7 +521,7 @@ static int kill_at_each_call(enum start start) {
         const char *path = path_of("at_each");
         const pid_t child = fork();
         if (child == 0) {
-            struct povundiri_opened opened;
+            struct povundiri_opened opened = POVUNDIRI_OPENED;
             struct povundiri_file file = {0};
             struct povundiri_handle segment = {0};
             calls = 0;
@@ -519,7 +548,7 @@ static int fail_at_each_call(enum start start) {
     uint32_t status = POVUNDIRI_SYSTEM;
     int at, failed = 0;
     for (at = 1; at < 1000; at += 1) {
-        struct povundiri_opened opened;
+        struct povundiri_opened opened = POVUNDIRI_OPENED;
         size_t length;
         unsigned char *before = begin(start, &length);
         calls = 0;
@@ -564,7 +593,7 @@ static int is_no_memory(uint32_t status, int fault) {
 
 /* Refuses each allocation in turn; returns how often that refused the call. No file is set aside for lack of memory. */
 static int refuse_each_allocation(enum start start) {
-    struct povundiri_opened opened;
+    struct povundiri_opened opened = POVUNDIRI_OPENED;
     int at, refused = 0;
     for (at = 1; at < 1000; at += 1) {
         struct povundiri_file file = {0};
@@ -612,7 +641,7 @@ static void kills_amid_making(void) {
     for (i = 0; i < 60 || (killed <= 10 && i < 600); i += 1) {
         struct povundiri_file file = {0};
         struct povundiri_handle segment = {0};
-        struct povundiri_opened opened;
+        struct povundiri_opened opened = POVUNDIRI_OPENED;
         const struct timespec wait = {0, 2000 * (long)(i % 60) * (i % 60)};
         bool began;
         pid_t child;
@@ -650,7 +679,7 @@ static void races(void) {
         for (number = 0; number < 2; number += 1) {
             children[number] = fork();
             if (children[number] == 0) {
-                struct povundiri_opened opened;
+                struct povundiri_opened opened = POVUNDIRI_OPENED;
                 char byte;
                 uint32_t status;
                 close(gate[1]);
@@ -687,6 +716,7 @@ int main(int count, char **words) {
     failed += group("without_renameat2", without_renameat2);
     failed += group("long_names", long_names);
     failed += group("behind_a_link", behind_a_link);
+    failed += group("sizes", sizes);
     failed += group("other_faults", other_faults);
     failed += group("other_shapes", other_shapes);
     failed += group("spent", spent);

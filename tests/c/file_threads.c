@@ -30,7 +30,7 @@ static int count_once(struct thread *thread, int round) {
     const char *path = path_of(PATH_NAMES[(thread->number + round) % PATHS]);
     struct povundiri_file file = {0};
     struct povundiri_handle segment = {0}, recorder = {0};
-    struct povundiri_opened opened;
+    struct povundiri_opened opened = POVUNDIRI_OPENED;
     size_t hist;
     const uint32_t status = povundiri_open(path, shape_of(WORDS), POVUNDIRI_ADOPT_OR_SET_ASIDE, NULL, &file, &segment, &opened);
     thread->set_aside += opened.set_aside[0] != 0;

@@ -156,7 +156,7 @@ static UNUSED uint32_t open_and_count(const char *name, enum povundiri_policy po
 
 /* Makes a file with a segment in which 's' has `count` units of 3, in place of any other file of the name. */
 static UNUSED void make_segment(const char *name, uint32_t count) {
-    struct povundiri_opened opened;
+    struct povundiri_opened opened = POVUNDIRI_OPENED;
     unlink(path_of(name));
     DONE(open_and_count(name, POVUNDIRI_ADOPT_OR_FAIL, count, &opened));
     HOLDS(opened.outcome == POVUNDIRI_MADE);

@@ -251,7 +251,7 @@ void daemon_that_opens() {
     povundiri::FileOptions kept;
     kept.flags = POVUNDIRI_FILE_KEEP_ON_FORK;
     Opened opened;
-    HOLDS(Segment::try_open(path_of("kept.seg").c_str(), kShape, Policy::AdoptOrFail, opened, kept) == std::errc::invalid_argument);
+    HOLDS(Segment::try_open(path_of("kept.seg").c_str(), kShape, Policy::AdoptOrFail, opened, kept) == Status::BadOptions);
 }
 
 // What a process leaves in its file when it ends: it counted three units.

@@ -138,7 +138,7 @@ static void try_file(const unsigned char *content, size_t length, struct povundi
 static void open_again(struct povundiri_shape shape, uint32_t units) {
     struct povundiri_file file = {0};
     struct povundiri_handle segment = {0};
-    struct povundiri_opened opened;
+    struct povundiri_opened opened = POVUNDIRI_OPENED;
     const uint32_t status = povundiri_open(path_of("fuzz"), shape, POVUNDIRI_ADOPT_OR_FAIL, NULL, &file, &segment, &opened);
     need("adopted again", status == POVUNDIRI_DONE && opened.outcome == POVUNDIRI_ADOPTED && opened.units == units);
     need("dropped", povundiri_drop(&segment) == POVUNDIRI_DONE);
@@ -149,7 +149,7 @@ static void open_again(struct povundiri_shape shape, uint32_t units) {
 static void try_segment(const unsigned char *content, size_t length, struct povundiri_shape shape, enum povundiri_policy policy) {
     struct povundiri_file file = {0};
     struct povundiri_handle segment = {0}, recorder = {0};
-    struct povundiri_opened opened;
+    struct povundiri_opened opened = POVUNDIRI_OPENED;
     size_t hist;
     uint32_t units = 0;
     const uint32_t status = povundiri_open(path_of("fuzz"), shape, policy, NULL, &file, &segment, &opened);

@@ -66,7 +66,8 @@ constexpr std::int32_t kInCustom[] = {9, 10, 999, 1000};
 
 class Worker {
 public:
-    Worker(Recorder recorder, tally::Thread& cells, std::uint32_t seed) : recorder_(std::move(recorder)), cells_(cells), chance_(seed) {}
+    Worker(Recorder recorder, tally::Thread& cells, std::uint32_t number, std::uint32_t seed)
+        : recorder_(std::move(recorder)), cells_(cells), number_(number), chance_(seed) {}
 
     [[noreturn]] void run() {
         find();
@@ -79,13 +80,17 @@ private:
         need("linear", recorder_.try_linear("linear", 1, 1000, 10, linear_));
         need("custom", recorder_.try_custom("custom", kCustomValues, custom_));
         need("sparse", recorder_.try_sparse("sparse", sparse_));
+        has_own_ = done("own", recorder_.try_boolean("own_" + std::to_string(number_), own_));
     }
 
     std::uint32_t below(std::uint32_t limit) { return static_cast<std::uint32_t>(chance_() % limit); }
 
     void step(std::uint64_t turn) {
         const std::uint32_t one = below(1000);
-        if (one < 300) {
+        if (one < 100 && has_own_) {
+            const std::uint32_t bucket = below(3);
+            add(own_, tally::kOwn + 3 * number_ + bucket, static_cast<std::int32_t>(bucket));
+        } else if (one < 300) {
             const std::uint32_t bucket = below(3);
             add(boolean_, tally::kBoolean + bucket, static_cast<std::int32_t>(bucket));
         } else if (one < 600) {
@@ -147,8 +152,11 @@ private:
 
     Recorder recorder_;
     tally::Thread& cells_;
+    const std::uint32_t number_;
     std::mt19937 chance_;
-    Hist boolean_, linear_, custom_, sparse_;
+    Hist boolean_, linear_, custom_, sparse_, own_;
+    // Whether there was room for its own histogram.
+    bool has_own_ = false;
     povundiri::Counts counts_;
     std::vector<std::uint64_t> records_;
 };
@@ -189,7 +197,8 @@ std::size_t cell_of(const std::string& name, std::int32_t low) {
     if (name == "linear") return tally::kLinear + static_cast<std::size_t>(std::find(kLinearValues, std::end(kLinearValues), low) - kLinearValues);
     if (name == "custom") return tally::kCustom + (low >= 10) + (low >= 100) + (low >= 1000);
     if (name == "sparse") return tally::kSparse + static_cast<std::size_t>(low + 64);
-    return tally::kMade + std::stoul(name.substr(name.find('_') + 1));
+    const std::size_t number = std::stoul(name.substr(name.find('_') + 1));
+    return name[0] == 'o' ? tally::kOwn + 3 * number + static_cast<std::size_t>(low) : tally::kMade + number;
 }
 
 using Units = std::vector<std::uint64_t>;
@@ -247,7 +256,7 @@ void look(const Options& options, const povundiri::Segment& segment, const tally
     for (std::uint32_t i = 0; i < tally::kThreads; ++i) {
         Recorder recorder;
         need("recorder", segment.try_recorder(recorder));
-        threads.emplace_back(&Worker::run, new Worker(std::move(recorder), cells[i], options.seed + i));
+        threads.emplace_back(&Worker::run, new Worker(std::move(recorder), cells[i], i, options.seed + i));
     }
     if (options.looks > 0) {
         look(options, segment, cells, before);

@@ -60,7 +60,7 @@ static void new_files(void) {
 static void refuse(int line, const char *name, const void *bytes, size_t length) {
     struct povundiri_file file = {0};
     const off_t blocks = blocks_of(name);
-    struct povundiri_opened opened;
+    struct povundiri_opened opened = POVUNDIRI_OPENED;
     int policy;
     check(line, "EEXIST", open_file(&file, name) == EEXIST && !povundiri_file_is_open(&file));
     for (policy = POVUNDIRI_ADOPT_OR_FAIL; policy <= POVUNDIRI_ADOPT_OR_BEGIN_ANEW; policy += 1) {
@@ -105,7 +105,7 @@ static void unfinished(void) {
     static const uint64_t header[18] = {0, COOKIE, 2, 64, 64, 7, 1, 0, 16, 12, 0, 0, 0, 4, 1, 0, 12, 0};
     uint64_t changed[18];
     struct povundiri_file file = {0};
-    struct povundiri_opened opened;
+    struct povundiri_opened opened = POVUNDIRI_OPENED;
     size_t length = 9, end;
     for (end = 1; end < 17; end += 1) {
         memset(changed, 0, sizeof changed);
@@ -134,7 +134,7 @@ static void one_zero(void) {
                   {5, POVUNDIRI_IMAGE_NOT_READY},   {7, POVUNDIRI_IMAGE_BAD_FREE},   {8, POVUNDIRI_ADOPT_DAMAGED},
                   {12, POVUNDIRI_IMAGE_BAD_QUEUE},  {13, POVUNDIRI_IMAGE_BAD_QUEUE}, {15, POVUNDIRI_ADOPT_DAMAGED}};
     const uint64_t zero = 0;
-    struct povundiri_opened opened;
+    struct povundiri_opened opened = POVUNDIRI_OPENED;
     size_t i, length;
     for (i = 0; i < sizeof zeroed / sizeof zeroed[0]; i += 1) {
         struct povundiri_file file = {0};
@@ -163,7 +163,7 @@ static void one_zero(void) {
 
 /* Opens a segment's file that was cut off at a length, which stays unchanged; returns the status. */
 static uint32_t status_where_cut(off_t at) {
-    struct povundiri_opened opened;
+    struct povundiri_opened opened = POVUNDIRI_OPENED;
     size_t length;
     unsigned char *before;
     uint32_t status;
@@ -179,7 +179,7 @@ static uint32_t status_where_cut(off_t at) {
 /* A segment's file of which the end is missing keeps its length, and adopt says BadSize; one that has all words of its own grows. */
 static void cut_files(void) {
     static const off_t cut[] = {136, 137, 1000, 4096, 8192, 8199};
-    struct povundiri_opened opened;
+    struct povundiri_opened opened = POVUNDIRI_OPENED;
     size_t i;
     for (i = 0; i < sizeof cut / sizeof cut[0]; i += 1) ANSWERS(IMAGE_BAD_SIZE, status_where_cut(cut[i]));
     make_segment("cut", 5);
@@ -191,7 +191,7 @@ static void cut_files(void) {
 /* A header that breaks off in its last word is none, and no segment is made over it. */
 static void cut_headers(void) {
     static const off_t cut[] = {129, 133, 135};
-    struct povundiri_opened opened;
+    struct povundiri_opened opened = POVUNDIRI_OPENED;
     size_t i;
     for (i = 0; i < sizeof cut / sizeof cut[0]; i += 1) ANSWERS(IMAGE_TOO_SHORT, status_where_cut(cut[i]));
     make_segment("cut", 5);
@@ -203,7 +203,7 @@ static void cut_headers(void) {
 /* A file that is refused keeps its length, even if room for more cursors would have been made. */
 static void refused_as_it_was(void) {
     const uint64_t wrong = 16; /* the free pointer, before the record */
-    struct povundiri_opened opened;
+    struct povundiri_opened opened = POVUNDIRI_OPENED;
     unsigned char *before;
     size_t length;
     make_segment("as_it_was", 5);
@@ -278,7 +278,7 @@ static void existing(void) {
     const uint64_t wrong = 16; /* the free pointer, before the record */
     struct povundiri_file file = {0};
     struct povundiri_handle segment = {0};
-    struct povundiri_opened opened;
+    struct povundiri_opened opened = POVUNDIRI_OPENED;
     HOLDS(with("existing", POVUNDIRI_FILE_EXISTING, 0) == ENOENT && !is_there(path_of("existing")));
     store("existing", "", 0);
     HOLDS(with("existing", POVUNDIRI_FILE_EXISTING, 0) == 0 && length_of("existing") == 8224);

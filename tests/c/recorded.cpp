@@ -126,7 +126,8 @@ void options() {
     const auto* const usual = new (place) RecordingOptions;
     const auto* const file = new (other) povundiri::FileOptions;
     HOLDS(usual->size == sizeof *usual && usual->bytes == 0 && usual->fold_at == 0 && usual->apart == 0);
-    HOLDS(usual->random == nullptr && usual->context == nullptr);
+    HOLDS(usual->random == nullptr && usual->context == nullptr && usual->flags == 0 && usual->mode == 0);
+    HOLDS(usual->most_bytes == 0 && usual->most_values == 0);
     HOLDS(file->size == sizeof *file && file->flags == 0 && file->mode == 0);
     struct {
         povundiri_recording_options known = POVUNDIRI_RECORDING_OPTIONS;
@@ -137,7 +138,8 @@ void options() {
         int fault = 0;
         const std::uint32_t status = povundiri_recording_open(folder(name).c_str(), &larger.known, &own, &fault);
         povundiri_recording_end(own);
-        HOLDS((status == POVUNDIRI_SYSTEM) == (fault == EINVAL) && (status == POVUNDIRI_DONE) == (own != nullptr));
+        HOLDS((status == POVUNDIRI_DONE || status == POVUNDIRI_BAD_OPTIONS) && fault == 0);
+        HOLDS((status == POVUNDIRI_DONE) == (own != nullptr));
         return status == POVUNDIRI_DONE;
     };
     HOLDS(opened("options"));
@@ -153,13 +155,14 @@ void options() {
 
 // Reasons keep their numbers, and have names; after the last there is none.
 void reasons() {
-    const char* const names[] = {"too_large", "other_spec", "no_space", "rolling", "forked", "ended", "no_memory", "removed"};
+    const char* const names[] = {"too_large", "other_spec", "no_space", "rolling", "forked", "ended", "no_memory", "removed", "child", "values"};
     std::uint32_t count = 0;
     for (const char* name : names) HOLDS(std::strcmp(povundiri_missed_text(count++), name) == 0);
     HOLDS(povundiri_missed_text(count) == nullptr && povundiri_missed_text(UINT32_MAX) == nullptr);
     static_assert(POVUNDIRI_MISSED_TOO_LARGE == 0 && POVUNDIRI_MISSED_OTHER_SPEC == 1 && POVUNDIRI_MISSED_NO_SPACE == 2);
     static_assert(POVUNDIRI_MISSED_ROLLING == 3 && POVUNDIRI_MISSED_FORKED == 4 && POVUNDIRI_MISSED_ENDED == 5);
-    static_assert(POVUNDIRI_MISSED_NO_MEMORY == 6 && POVUNDIRI_MISSED_REMOVED == 7);
+    static_assert(POVUNDIRI_MISSED_NO_MEMORY == 6 && POVUNDIRI_MISSED_REMOVED == 7 && POVUNDIRI_MISSED_CHILD == 8);
+    static_assert(POVUNDIRI_MISSED_VALUES == 9);
     Recording recording;
     HOLDS(opens(folder("reasons"), recording) && povundiri_recording_missed(nullptr, 0) == 0);
     const std::string text = recording.prometheus();
@@ -172,7 +175,7 @@ void folders() {
     const std::string other = folder("other"), file = other + "/file";
     HOLDS(mkdir(other.c_str(), 0700) == 0);
     HOLDS(std::fclose(std::fopen(file.c_str(), "w")) == 0);
-    HOLDS(Recording::try_open(other.c_str(), recording) == std::errc::file_exists);
+    HOLDS(Recording::try_open(other.c_str(), recording) == Status::FolderInUse);
     HOLDS(Recording::try_open(file.c_str(), recording) == std::errc::not_a_directory);
     HOLDS(Recording::try_open(folder("none/below").c_str(), recording) == std::errc::no_such_file_or_directory);
     RecordingOptions options;
@@ -181,10 +184,10 @@ void folders() {
     HOLDS(!recording);
     povundiri_handle sums = {};
     int fault = 0;
-    ANSWERS(SYSTEM, povundiri_folder_sums(other.c_str(), &sums, nullptr, &fault));
-    HOLDS(fault == EINVAL && !sums.held);
-    ANSWERS(SYSTEM, povundiri_folder_fold(other.c_str(), nullptr, &fault));
-    HOLDS(fault == EINVAL);
+    ANSWERS(NO_RECORDING, povundiri_folder_sums(other.c_str(), &sums, nullptr, &fault));
+    HOLDS(fault == 0 && !sums.held);
+    ANSWERS(NO_RECORDING, povundiri_folder_fold(other.c_str(), nullptr, &fault));
+    HOLDS(fault == 0 && bytes_of(other + "/fold.lock") == -1);
     HOLDS(std::remove(file.c_str()) == 0 && opens(other, recording));
 }
 
@@ -288,6 +291,7 @@ void largest() {
     Clock clock;
     RecordingOptions options = small();
     options.bytes = 4 << 20;
+    options.most_values = UINT64_MAX;
     Recording recording;
     HOLDS(opens(folder("largest"), recording, options));
     const Metric sparse = metric_of(recording, "s", {POVUNDIRI_SPARSE, 0, 0, 0});
@@ -773,6 +777,7 @@ void full_disk() {
 void unwritable() {
     const std::string path = folder("closed"), mark = path + "/recording";
     HOLDS(mkdir(path.c_str(), 0755) == 0 && std::fclose(std::fopen(mark.c_str(), "w")) == 0 && chmod(path.c_str(), 0555) == 0);
+    if (geteuid() == 0) HOLDS(chown(path.c_str(), 65534, 65534) == 0);
     HOLDS(in_child([&] {
         if (geteuid() == 0 && (setgid(65534) != 0 || setuid(65534) != 0)) return false;
         Recording recording;

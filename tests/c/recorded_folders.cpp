@@ -126,9 +126,9 @@ void marks() {
         Recording recording;
         povundiri_handle sums = {};
         int fault = 0, other = 0;
-        return Recording::try_open(path.c_str(), recording) == std::errc::file_exists && bytes_of(spare) == 13 &&
-               povundiri_folder_sums(path.c_str(), &sums, nullptr, &fault) == POVUNDIRI_SYSTEM && fault == EINVAL &&
-               povundiri_folder_fold(path.c_str(), nullptr, &other) == POVUNDIRI_SYSTEM && other == EINVAL &&
+        return Recording::try_open(path.c_str(), recording) == Status::FolderInUse && bytes_of(spare) == 13 &&
+               povundiri_folder_sums(path.c_str(), &sums, nullptr, &fault) == POVUNDIRI_NO_RECORDING && fault == 0 &&
+               povundiri_folder_fold(path.c_str(), nullptr, &other) == POVUNDIRI_NO_RECORDING && other == 0 &&
                bytes_of(path + "/fold.lock") == -1 && segments_in(path) == 0;
     };
     HOLDS(is_refused());

@@ -139,8 +139,8 @@ void unmarked() {
     // What else is there makes it another folder, in which nothing is made.
     make_file(path + "/notes", "mine");
     povundiri_handle sums = {};
-    ANSWERS(SYSTEM, povundiri_folder_sums(path.c_str(), &sums, nullptr, &fault));
-    HOLDS(fault == EINVAL && !sums.held && Recording::try_open(path.c_str(), recording) == std::errc::file_exists && !is_marked(path));
+    ANSWERS(NO_RECORDING, povundiri_folder_sums(path.c_str(), &sums, nullptr, &fault));
+    HOLDS(fault == 0 && !sums.held && Recording::try_open(path.c_str(), recording) == Status::FolderInUse && !is_marked(path));
 }
 
 // A folder that has none of a recording's files stays another one.
@@ -149,7 +149,7 @@ void not_a_recordings() {
     Recording recording;
     HOLDS(mkdir(path.c_str(), 0700) == 0);
     make_file(path + "/fold.lock", "");
-    HOLDS(Recording::try_open(path.c_str(), recording) == std::errc::file_exists && !is_marked(path));
+    HOLDS(Recording::try_open(path.c_str(), recording) == Status::FolderInUse && !is_marked(path));
 }
 
 // Counts in three segments before, and three after, and says whether nothing was missed.

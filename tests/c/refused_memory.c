@@ -112,12 +112,52 @@ static void merge(struct povundiri_handle *segment, const uint64_t *words) {
     DONE(povundiri_join(segment, &recorder));
 }
 
-/* The words of an image of a custom histogram with two samples, and a segment into which it is merged. */
-static void each_allocation_of_merges(void) {
-    struct povundiri_shape shape = {WORDS, PAGE, 7, 1, 2};
-    struct povundiri_handle segment = {0}, recorder = {0};
+/* The same of a follower, which adds each unit once, whatever was refused before. */
+static void follow_image(struct povundiri_handle *segment, const uint64_t *words) {
+    struct povundiri_merge_report report = {0};
+    struct povundiri_handle recorder = {0}, follower = {0};
+    struct povundiri_count counts[4];
+    struct povundiri_totals totals = {0, 0, 0};
+    uint64_t added = 0;
+    size_t hist = 0, stopped = 0, number;
+    uint32_t status = 1;
+    REFUSE_EACH(povundiri_follower_new(4, &follower));
+    DONE(povundiri_recorder(segment, 100, &recorder));
+    for (number = 0; status != POVUNDIRI_DONE && number < 1000; number += 1) {
+        until_refused = number;
+        status = povundiri_follower_merge(&follower, &recorder, words, WORDS, 2, &report);
+        until_refused = SIZE_MAX;
+        HOLDS(status == POVUNDIRI_DONE || is_no_memory(status));
+        HOLDS((report.stopped == POVUNDIRI_REFUSED_NO_MEMORY) == (status == POVUNDIRI_REFUSED_NO_MEMORY));
+        added += report.added;
+        stopped += report.stopped == POVUNDIRI_REFUSED_NO_MEMORY && strcmp(report.name, "c") == 0;
+    }
+    HOLDS(number > 10 && stopped > 1 && added == 2 && report.left == 0);
+    DONE(povundiri_hist_custom(&recorder, "c", VALUES, 3, &hist));
+    DONE(povundiri_snapshot(&recorder, hist, counts, 4, &totals));
+    HOLDS(totals.redundant == 2 && totals.sum == 55 && counts[1].key == 10 && counts[1].count == 2);
+    DONE(povundiri_join(segment, &recorder));
+    ASKS_FOR_NONE(povundiri_drop(&follower));
+}
+
+/* A follower that skips the image: all of it is noted, or nothing. */
+static void skip_image(const uint64_t *words) {
+    struct povundiri_handle follower = {0};
+    uint64_t units = 9;
+    DONE(povundiri_follower_new(4, &follower));
+    REFUSE_EACH(povundiri_follower_skip(&follower, words, WORDS, &units));
+    HOLDS(units == 2);
+    DONE(povundiri_follower_skip(&follower, words, WORDS, &units));
+    HOLDS(units == 0);
+    DONE(povundiri_drop(&follower));
+    REFUSE_EACH(povundiri_follower_of_marks(4, words, WORDS, &follower));
+    DONE(povundiri_drop(&follower));
+}
+
+/* The words of an image of a custom histogram with two samples. */
+static void image_of_two(struct povundiri_shape shape, uint64_t *words) {
     const struct povundiri_item items[] = {{50, 2}};
-    uint64_t words[WORDS];
+    struct povundiri_handle segment = {0}, recorder = {0};
     size_t hist = 0;
     DONE(povundiri_create(shape, &segment));
     DONE(povundiri_recorder(&segment, 100, &recorder));
@@ -125,9 +165,21 @@ static void each_allocation_of_merges(void) {
     DONE(povundiri_batch(&recorder, hist, items, 1, 55, NULL));
     DONE(povundiri_join(&segment, &recorder));
     DONE(povundiri_close(&segment, words, WORDS, NULL));
+}
+
+/* A segment into which these are merged, and another one into which they are followed. */
+static void each_allocation_of_merges(void) {
+    const struct povundiri_shape shape = {WORDS, PAGE, 7, 1, 2};
+    struct povundiri_handle segment = {0};
+    uint64_t words[WORDS], own[WORDS];
+    image_of_two(shape, words);
     DONE(povundiri_create(shape, &segment));
     merge(&segment, words);
-    DONE(povundiri_close(&segment, words, WORDS, NULL));
+    DONE(povundiri_close(&segment, own, WORDS, NULL));
+    DONE(povundiri_create(shape, &segment));
+    follow_image(&segment, words);
+    DONE(povundiri_close(&segment, own, WORDS, NULL));
+    skip_image(words);
     HOLDS(blocks == 0);
 }
 

@@ -67,7 +67,7 @@ std::uint32_t counted(povundiri_handle* recorder, std::size_t hist, povundiri_co
     return POVUNDIRI_DONE;
 }
 
-// What a call of a sum returns.
+// What a call of a follower or a sum returns.
 std::uint32_t no_sums(const povundiri_handle* handle) { return handle->held ? POVUNDIRI_OTHER_KIND : POVUNDIRI_EMPTY; }
 
 }  // namespace
@@ -195,7 +195,7 @@ std::uint32_t povundiri_proved_merge(povundiri_handle* recorder, const std::uint
                                      std::size_t, povundiri_merge_totals* totals) {
     if (held(recorder) == nullptr) return POVUNDIRI_EMPTY;
     if (length < 1) return POVUNDIRI_IMAGE_TOO_SHORT;
-    *totals = {0, words[0], words[0], 0, 0, 0, false, false};
+    *totals = {0, words[0], words[0], 0, 0, 0, 0, false, false};
     if (kind(recorder, false) != POVUNDIRI_DONE) return kind(recorder, false);
     Held* of = held(recorder);
     if (of->units < words[0]) return POVUNDIRI_REFUSED_NO_UNITS;
@@ -251,7 +251,21 @@ std::uint32_t povundiri_proved_show(const std::uint64_t*, std::size_t, std::uint
     return POVUNDIRI_DONE;
 }
 
-// There are no sums here: each handle is of another kind, or empty.
+// There are no followers and no sums here: each handle is of another kind, or empty.
+std::uint32_t povundiri_proved_follower_new(std::uint64_t, povundiri_handle*) { return POVUNDIRI_NO_MEMORY; }
+std::uint32_t povundiri_proved_follower_of_marks(std::uint64_t, const std::uint64_t*, std::size_t, povundiri_handle*) {
+    return POVUNDIRI_NO_MEMORY;
+}
+
+std::uint32_t povundiri_proved_follower_merge(povundiri_handle* follower, povundiri_handle* recorder, const std::uint64_t*, std::size_t,
+                                              std::uint64_t, std::uint8_t*, std::size_t, povundiri_merge_totals*) {
+    return recorder->held ? no_sums(follower) : std::uint32_t{POVUNDIRI_EMPTY};
+}
+
+std::uint32_t povundiri_proved_follower_skip(povundiri_handle* follower, const std::uint64_t*, std::size_t, std::uint64_t*) {
+    return no_sums(follower);
+}
+
 std::uint32_t povundiri_proved_sums_new(povundiri_handle*) { return POVUNDIRI_NO_MEMORY; }
 
 std::uint32_t povundiri_proved_sums_add(povundiri_handle* sums, std::uint64_t, const std::uint64_t*, std::size_t) { return no_sums(sums); }

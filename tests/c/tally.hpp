@@ -13,9 +13,11 @@ namespace tally {
 
 inline constexpr std::size_t kThreads = 4;
 
-// A cell is a bucket of one of the histograms, in this order: boolean, linear, custom, sparse, and those that are made on the way.
+// A cell is a bucket of one of the histograms, in this order: boolean, linear, custom, sparse, those that are made on the way, and those in
+// which one thread alone counts, which are boolean.
 inline constexpr std::size_t kBoolean = 0, kLinear = kBoolean + 3, kCustom = kLinear + 10, kSparse = kCustom + 4;
-inline constexpr std::size_t kSparseValues = 128, kMade = kSparse + kSparseValues, kMadeNames = 111, kCells = kMade + kMadeNames;
+inline constexpr std::size_t kSparseValues = 128, kMade = kSparse + kSparseValues, kMadeNames = 111, kOwn = kMade + kMadeNames;
+inline constexpr std::size_t kCells = kOwn + 3 * kThreads;
 
 struct Cell {
     std::atomic<std::uint64_t> begun, ended;

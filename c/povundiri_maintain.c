@@ -1,0 +1,80 @@
+/* What keeps the folder of a recording small: folds, when there are many segments, or no room for another one. */
+#define _GNU_SOURCE
+
+#include <errno.h>
+#include <pthread.h>
+
+#include "povundiri_recording_state.h"
+
+/* How many times `fold_at` segments are folded by a thread that makes a spare, where no text does. */
+enum { MANY_TIMES = 4 };
+
+/* Folds, if there are `least` segments or more. */
+static uint32_t fold(struct povundiri_recording *recording, uint64_t least, uint64_t *folded, int *fault) {
+    struct povundiri_held folder;
+    uint64_t segments = 0;
+    uint32_t status = POVUNDIRI_SYSTEM;
+    int state;
+    *folded = 0;
+    pthread_setcancelstate(PTHREAD_CANCEL_DISABLE, &state);
+    *fault = povundiri_recording_folder(recording, &folder);
+    if (*fault == 0) {
+        if (least > 0) *fault = povundiri_parts_count(folder.descriptor, &segments);
+        if (*fault == 0) status = segments < least ? (uint32_t)POVUNDIRI_DONE : povundiri_parts_fold(folder.descriptor, folded, fault);
+        povundiri_parts_close(&folder);
+    }
+    pthread_setcancelstate(state, NULL);
+    return status;
+}
+
+uint32_t povundiri_recording_fold(struct povundiri_recording *recording, uint64_t *folded, int *fault) {
+    uint64_t own = 0;
+    if (recording == NULL || fault == NULL) return POVUNDIRI_NULL;
+    return fold(recording, 0, folded != NULL ? folded : &own, fault);
+}
+
+uint32_t povundiri_recording_fold_if_due(struct povundiri_recording *recording) {
+    uint64_t folded = 0;
+    int fault = 0;
+    return fold(recording, recording->options.fold_at, &folded, &fault);
+}
+
+void povundiri_recording_fold_if_many(struct povundiri_recording *recording) {
+    const uint64_t at = recording->options.fold_at;
+    uint64_t folded = 0;
+    int fault = 0;
+    if (at <= UINT64_MAX / MANY_TIMES) (void)fold(recording, MANY_TIMES * at, &folded, &fault);
+}
+
+/* One thread folds, and the others wait for it. It has made room if it has removed a segment; so may have another process, which folds. */
+bool povundiri_recording_make_room(struct povundiri_recording *recording) {
+    uint64_t folded = 0;
+    uint32_t status;
+    int fault = 0;
+    recording->lacks_room = false;
+    if (recording->is_making_room) {
+        while (recording->is_making_room) pthread_cond_wait(&recording->room, &recording->mutex);
+        return true;
+    }
+    recording->is_making_room = true;
+    pthread_mutex_unlock(&recording->mutex);
+    status = fold(recording, 0, &folded, &fault);
+    pthread_mutex_lock(&recording->mutex);
+    recording->is_making_room = false;
+    pthread_cond_broadcast(&recording->room);
+    if (folded == 0 && status != POVUNDIRI_BUSY) return false;
+    recording->refusals = 0;
+    recording->again_at = 0;
+    return true;
+}
+
+uint32_t povundiri_recording_maintain(struct povundiri_recording *recording) {
+    uint32_t status;
+    int state;
+    if (recording == NULL) return POVUNDIRI_NULL;
+    status = povundiri_recording_fold_if_due(recording);
+    pthread_setcancelstate(PTHREAD_CANCEL_DISABLE, &state);
+    povundiri_segments_prepare(recording);
+    pthread_setcancelstate(state, NULL);
+    return status == POVUNDIRI_BUSY ? (uint32_t)POVUNDIRI_DONE : status;
+}

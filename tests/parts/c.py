@@ -18,11 +18,23 @@ import signal
 import subprocess
 import tempfile
 import threading
+import time
 from collections.abc import Callable, Iterator, Mapping, Sequence
 from typing import Any, Optional
 
 from parts import known
-from support import compiling, native, plain_export, plain_reader, plain_scale, plain_show, readme, services
+from support import (
+    compiling,
+    native,
+    plain_export,
+    plain_reader,
+    plain_show,
+    printed,
+    readme,
+    refusing,
+    services,
+    timed,
+)
 from support.program import ROOT, Answer, Case, Path, answer, difference
 
 PROGRAM = "persist_report"
@@ -34,6 +46,7 @@ CHECKS: tuple[tuple[str, list[str], bool], ...] = (
     ("every_call.c", [], False),
     ("every_call_images.c", [], False),
     ("every_call_merges.c", [], False),
+    ("every_call_followers.c", [], False),
     ("every_call.cpp", [], False),
     ("every_call.cpp", [NO_EXCEPTIONS], False),
     ("refused_memory.c", [], False),
@@ -45,6 +58,8 @@ CHECKS: tuple[tuple[str, list[str], bool], ...] = (
     ("recorders.cpp", [NO_EXCEPTIONS], True),
     ("forked.cpp", [], True),
     ("opened.cpp", [], True),
+    ("times.cpp", [], False),
+    ("times.cpp", [NO_EXCEPTIONS], False),
 )
 
 
@@ -62,17 +77,8 @@ RECORDED = (
     "".join(f"latency,linear,{low},{high},{units}\n" for low, high, units in zip(ENDS, ENDS[1:], UNITS))
     + "latency,total,2000,999000\n"
 )
-# The same of the program of README.md, whose histogram has a scale: each value from 0 to 999, twice.
-SCALE = [0, *plain_scale.values(1, 10_000_000, 5)]
-RECORDED_BY_README = (
-    "".join(
-        f"request_us,custom,{low},{high},{2 * (min(high, 1000) - low)}\n"
-        for low, high in zip(SCALE, SCALE[1:])
-        if low < 1000
-    )
-    + "request_us,total,2000,999000\n"
-)
-METRICS = b'\npovundiri_units_count{histogram="request_us"} 2000\n'
+# What the program of README.md exports when it is run twice (tests/support/timed.py has what it records).
+METRICS = f'\npovundiri_units_count{{histogram="request_us",route="/cart"}} {2 * timed.UNITS}\n'.encode()
 # How long a command that goes on until it is ended is given for its second text.
 MOST_SECONDS = 300
 
@@ -118,7 +124,7 @@ def text_of_statuses(program: pathlib.Path) -> Iterator[Case]:
     yield "each status is one of povundiri::Status", wrong
     shared = sorted(name for name in listed.values() if [*listed.values()].count(name) > 1)
     yield "no two statuses have one name", f"shared are {shared}" if shared else None
-    names_of_all = sorted(set(listed.values()) | {"Forked"})
+    names_of_all = sorted(set(listed.values()) | {"BadUnit", "Forked"})
     unknown = [name for name in names_of_all if answer(program, ["explain", name]).status != 0]
     yield "each name is explained", f"not explained are {unknown}" if unknown else None
 
@@ -210,18 +216,28 @@ def segment_in(home: pathlib.Path) -> pathlib.Path:
     return recorded if recorded.exists() else home / "latency.seg"
 
 
+def wrong_recorded(page: str, came: Answer, seconds: float) -> str | None:
+    """What is wrong with the report of what a program of a page has recorded, which ran twice, so long together; or
+    None. README.md has real times."""
+    if page != "README.md" or came.status != 0 or came.error:
+        return difference(Answer(RECORDED.encode()), came)
+    return timed.wrong(came.output.decode(), 2, seconds)
+
+
 def recorded_twice(
-    installed: native.Installed, program: pathlib.Path, source: pathlib.Path, home: pathlib.Path, wanted: str
+    installed: native.Installed, program: pathlib.Path, source: pathlib.Path, home: pathlib.Path, page: str
 ) -> str | None:
-    """A program that records a thousand samples into latency.seg, or into the folder metrics, run twice: the second
-    time it continues with what is there."""
+    """A program that records samples into latency.seg, or into the folder metrics, run twice: the second time it
+    continues with what is there."""
     built = installed.program(source)
     home.mkdir()
+    start = time.monotonic()
     for _ in range(2):
         came = answer(built, ["latency.seg"], cwd=home)
         if came.error or came.status != 0:
             return f"status {came.status}: {came.error[-1500:]!r}"
-    return difference(Answer(wanted.encode()), report_in(program, segment_in(home)))
+    seconds = time.monotonic() - start
+    return wrong_recorded(page, report_in(program, segment_in(home)), seconds)
 
 
 def shown_programs(folder: pathlib.Path) -> Iterator[tuple[str, pathlib.Path]]:
@@ -239,15 +255,16 @@ def shown_programs(folder: pathlib.Path) -> Iterator[tuple[str, pathlib.Path]]:
 def examples(installed: native.Installed, program: pathlib.Path, folder: pathlib.Path) -> Iterator[tuple[str, Test]]:
     """The example in C, and what the pages show."""
     record = EXAMPLES / "c" / "record.c"
-    yield "record.c", lambda: recorded_twice(installed, program, record, folder / "record", RECORDED)
+    yield "record.c", lambda: recorded_twice(installed, program, record, folder / "record", "docs/C.md")
     shown = dict(shown_programs(folder))
     without = [page for page in PAGES if not any(name.endswith(f" of {page}") for name in shown)]
     yield "programs of pages", lambda: f"there is none on {without}" if without else None
     same = any(record.read_text().endswith(source.read_text()) for source in shown.values())
     yield "record.c is shown", lambda: None if same else "no page shows it as it stands"
     for name, source in shown.items():
-        wanted = RECORDED_BY_README if name.endswith(" of README.md") else RECORDED
-        yield name, functools.partial(recorded_twice, installed, program, source, source.with_suffix(""), wanted)
+        page = name.rpartition(" of ")[2]
+        yield name, functools.partial(recorded_twice, installed, program, source, source.with_suffix(""), page)
+    yield "which wrong times are found (tests/support/timed.py)", timed.let_through
     yield "the commands of README.md", lambda: wrong_after_program(program, folder / "readme")
 
 
@@ -259,9 +276,10 @@ def wrong_after_program(program: pathlib.Path, home: pathlib.Path) -> str | None
         (home / name).symlink_to(ROOT / name)
     setting = {**os.environ, "HOME": str(home), "PATH": os.pathsep.join([str(program.parent), os.environ["PATH"]])}
     commands = [*readme.block(readme.INSTALLED), *readme.block(readme.RELEASE)[1:], "./latency"]
+    start = time.monotonic()
     native.run(["bash", "-e", "-c", "\n".join(commands)], cwd=home, env=setting)
-    recorded = Answer(RECORDED_BY_README.encode())
-    if wrong := difference(recorded, answer(program, ["report", segment_in(home)])):
+    recorded = answer(program, ["report", segment_in(home)])
+    if wrong := wrong_recorded("README.md", recorded, time.monotonic() - start):
         return wrong
     exports, *commands = readme.block(readme.SERVICE)
     for command in commands:
@@ -324,3 +342,5 @@ def cases(program: pathlib.Path, options: argparse.Namespace) -> Iterator[Case]:
             yield name, wrong_of(test)
         yield from services.cases(installed, program, folder)
         yield from compiling.cases(installed, folder)
+        yield from refusing.cases(folder)
+        yield from printed.cases(folder)

@@ -1,9 +1,9 @@
 """The tasks of docs/COOKBOOK.md: each command there is run, and prints what is below it. And the example of README.md.
 
 A block of the page is code, and the text before it names the file that has it, or commands, each after a `$`. They run
-one after the other in a new folder, which has the examples; Python finds `python/povundiri`. What they print, on both
-streams, is compared line by line; `[..]` stands for any lines. If there is no `sqlite3`, the commands that need it are
-left out, and a line says so.
+one after the other in a new folder, which has the examples, and c/ as it is; Python finds `python/povundiri`. What they
+print, on both streams, is compared line by line; `[..]` stands for any lines. If there is no `sqlite3`, the commands
+that need it are left out, and a line says so.
 
 The command of README.md that shows an example prints the lines below it, among others. Which part runs each other
 command of that page, tests/support/readme.py says.
@@ -107,7 +107,8 @@ def cases(program: pathlib.Path, _options: argparse.Namespace) -> Iterator[Case]
     titles = set()
     with tempfile.TemporaryDirectory() as scratch:
         folder = pathlib.Path(scratch)
-        shutil.copytree(ROOT / "examples", folder / "examples")
+        shutil.copytree(ROOT / "examples", folder / "examples", ignore=shutil.ignore_patterns("out"))
+        (folder / "c").symlink_to(ROOT / "c")
         for title, before, block in blocks():
             titles.add(title)
             if not block[0].startswith(PROMPT):

@@ -29,7 +29,7 @@ PROGRAM = "persist_report"
 SOURCE = ROOT / "examples" / "cpp" / "demo.cpp"
 MOST_LINES = 40
 THREADS = 4
-HISTOGRAM = b"gap_ns"
+HISTOGRAM = b"gap_ns{service=demo}"
 # How a shell says that a process was killed, maybe with more words, or not at all if it sees that too late; and what
 # make says when it is passed a folder.
 KILLED = "Killed"
@@ -138,7 +138,7 @@ def wrong_state(demo: Demo, program: pathlib.Path) -> str | None:
     if shown is None or [int(number) for number in shown.groups()] != [3, confirmed, there, begun]:
         return f"{confirmed} <= {there} <= {begun}, and the service says {shown and shown[0]}"
     report = answer(program, ["report", demo.home / "metrics"])
-    units = re.search(rb"^gap_ns,total,(\d+),", report.output, re.MULTILINE)
+    units = re.search(rb"^%b,total,(\d+)," % re.escape(HISTOGRAM), report.output, re.MULTILINE)
     return None if units is not None and int(units[1]) == there else f"{there}, and not {report}"
 
 

@@ -13,6 +13,7 @@ import re
 import shutil
 import subprocess
 import tempfile
+import time
 from collections.abc import Iterable, Iterator, Sequence
 from concurrent.futures import ThreadPoolExecutor
 from itertools import chain
@@ -20,7 +21,7 @@ from itertools import chain
 from parts import c
 from support import debugged, manuals, native, packaged, releases
 from support.packaged import BARE_PATH, PACKAGING, PROGRAMS
-from support.program import ROOT, Answer, Case, Word, answer, built, difference
+from support.program import ROOT, Case, Word, answer, built
 
 PROGRAM = "persist_report"
 KINDS = ("povundiri", "povundiri-static")
@@ -309,7 +310,7 @@ def wrong_checks(prefix: pathlib.Path, home: pathlib.Path) -> str | None:
     return None if right else f"passed were {passed}"
 
 
-def wrong_page(prefix: pathlib.Path, source: pathlib.Path, kind: str, wanted: str) -> str | None:
+def wrong_page(prefix: pathlib.Path, source: pathlib.Path, kind: str, page: str) -> str | None:
     """What is wrong with a program of a page that is compiled by a package of pkg-config and run twice, or None."""
     home = source.parent / f"{source.stem}_{kind}"
     home.mkdir()
@@ -319,11 +320,13 @@ def wrong_page(prefix: pathlib.Path, source: pathlib.Path, kind: str, wanted: st
     native.run([*packaged.without_network(), "bash", "-ec", line], env=setting, cwd=home)
     if kind == "povundiri":
         setting["LD_LIBRARY_PATH"] = str(prefix / "lib")
+    start = time.monotonic()
     for _ in range(2):
         came = answer(home / "program", ["latency.seg"], cwd=home, env=setting)
         if came.error or came.status != 0:
             return f"status {came.status}: {came.error[-1500:]!r}"
-    return difference(Answer(wanted.encode()), c.report_in(prefix / "bin" / PROGRAM, c.segment_in(home)))
+    seconds = time.monotonic() - start
+    return c.wrong_recorded(page, c.report_in(prefix / "bin" / PROGRAM, c.segment_in(home)), seconds)
 
 
 def pages(prefix: pathlib.Path, folder: pathlib.Path) -> Iterator[Case]:
@@ -333,8 +336,7 @@ def pages(prefix: pathlib.Path, folder: pathlib.Path) -> Iterator[Case]:
     yield "the pages show programs", None if len(works) >= 2 * len(c.PAGES) else f"only {works}"
 
     for name, source, kind in works:
-        wanted = c.RECORDED_BY_README if name.endswith(" of README.md") else c.RECORDED
-        yield f"{name}, by {kind}", wrong_page(prefix, source, kind, wanted)
+        yield f"{name}, by {kind}", wrong_page(prefix, source, kind, name.rpartition(" of ")[2])
 
 
 def used(stage: pathlib.Path, folder: pathlib.Path) -> Iterator[Case]:

@@ -4,6 +4,8 @@ fill small segments, which grow. The program is killed at a random moment and st
 The sum of the folder has of each histogram at least what had ended, and at most what was begun, over all that ran
 there: one after the other, two at once, or one that starts while another ends; with folds and without; and no reader
 beside them sees a number fall. A fold, and the beginning of segments, are killed at each of their calls to the system.
+What children counted is added to a recording by followers and by merges: each unit once, whatever becomes of the
+segments, or missed where it is given up.
 """
 
 from __future__ import annotations
@@ -37,14 +39,24 @@ STOPPED = (
 )
 # A program that begins segments makes this many of these calls within some milliseconds.
 BEGINNINGS = 100
-# The programs that check something, and which calls to the system each of them intercepts.
+OF_CHILDREN = (
+    "clock_gettime", "posix_fallocate", "unlinkat", "malloc", "calloc", "realloc", "posix_memalign",
+    "povundiri_proved_follower_merge",
+)
+# The programs that check something, and which calls to the system or to the heap each of them intercepts.
 CHECKED = {
+    "recorded_times": (), "recorded_names": (), "recorded_families": ("malloc",),
     "recorded": ("clock_gettime", "posix_fallocate"), "recorded_folders": ("openat", "flock", "linkat"),
-    "recorded_removed": (),
+    "recorded_removed": (), "recorded_children": OF_CHILDREN, "recorded_refusals": OF_CHILDREN, "recorded_users": (),
+    "recorded_room": ("posix_fallocate",), "recorded_values": ("posix_fallocate",), "silence": (),
 }
 THREADS = "-fsanitize=thread"
+# The programs of which the groups with threads are run under the thread sanitizer.
+THREADED = ("recorded", "recorded_refusals", "recorded_families")
 # The reasons for what is missed, in the order of the library; what a run may miss that nothing disturbs.
-REASONS = ("too_large", "other_spec", "no_space", "rolling", "forked", "ended", "no_memory", "removed")
+REASONS = (
+    "too_large", "other_spec", "no_space", "rolling", "forked", "ended", "no_memory", "removed", "child", "values",
+)
 MAY_MISS = ("too_large", "rolling")
 # The most units that may be missed as `rolling`, of those that were counted; seen were at most 0.0002.
 MOST_ROLLING = 0.05
@@ -328,19 +340,17 @@ class Programs:
         settings = {**os.environ, "ASAN_OPTIONS": "detect_leaks=1", "TSAN_OPTIONS": "halt_on_error=1"}
         yield from native.checks_of(title, [program, home, *words], settings)
 
-    def for_threads(self) -> pathlib.Path:
+    def for_threads(self) -> Iterator[tuple[str, pathlib.Path]]:
         """The checks, and what is in `c/`, under the thread sanitizer. It does not see into the proved part."""
         home = self.folder / "for_threads"
         home.mkdir()
         sources = [path for path in native.LIBRARY.iterdir() if path.suffix in native.COMPILERS]
-        objects = [
-            compiling.compiled(home, source, THREADS, "-O1")
-            for source in (*sources, native.PROGRAMS / "recorded.cpp")
-        ]
-        built = home / "recorded"
-        words = [*native.compiler(".cpp"), THREADS, "-pthread", *wrapped(CHECKED["recorded"])]
-        native.run([*words, "-o", built, *objects, *self.installed.words("--libs")])
-        return built
+        objects = [compiling.compiled(home, source, THREADS, "-O1") for source in sources]
+        for name in THREADED:
+            own = compiling.compiled(home, native.PROGRAMS / f"{name}.cpp", THREADS, "-O1")
+            words = [*native.compiler(".cpp"), THREADS, "-pthread", *wrapped(CHECKED[name])]
+            native.run([*words, "-o", home / name, own, *objects, *self.installed.words("--libs")])
+            yield name, home / name
 
     def collected(self) -> Iterator[Case]:
         """What prometheus-cpp writes of a recording, if prometheus-cpp is installed."""
@@ -362,7 +372,8 @@ class Programs:
             source, words = native.PROGRAMS / f"{name}.cpp", wrapped(calls)
             yield from self.checked(name, self.installed.program(source, *words, *native.SANITIZED))
             yield from self.checked(f"{name}, no exceptions", self.installed.program(source, *words, "-fno-exceptions"))
-        yield from self.checked("threads", self.for_threads(), "threads")
+        for name, program in self.for_threads():
+            yield from self.checked(f"{name}, threads", program, "threads")
         yield from self.collected()
 
 

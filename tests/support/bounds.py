@@ -22,6 +22,7 @@ CELLS = [
     *(("custom", low) for low in (0, 10, 100, 1000)),
     *(("sparse", low) for low in range(-64, 64)),
     *((f"made_{number}", 1) for number in range(111)),
+    *((f"own_{thread}", low) for thread in range(THREADS) for low in (0, 1, 2)),
 ]
 # A histogram and the least value of a bucket, and how many units each has.
 Cell = tuple[str, int]

@@ -22,8 +22,9 @@ C_HEADERS = (
     "povundiri_shared.h",
 )
 CPP_HEADERS = (
-    *C_HEADERS, "povundiri_status.hpp", "povundiri_values.hpp", "povundiri_images.hpp", "povundiri.hpp",
-    "povundiri_recording.hpp", "povundiri_shared.hpp",
+    *C_HEADERS, "povundiri_status.hpp", "povundiri_time.hpp", "povundiri_values.hpp", "povundiri_images.hpp",
+    "povundiri.hpp", "povundiri_names.hpp", "povundiri_metric.hpp", "povundiri_family.hpp", "povundiri_recording.hpp",
+    "povundiri_shared.hpp",
 )
 MOST_SECONDS = 300
 
@@ -128,9 +129,9 @@ def own_lines(source: pathlib.Path, *flags: str) -> list[str]:
 def one_definition(folder: pathlib.Path) -> Iterator[Case]:
     """A file with exceptions and one without see the same definitions."""
     source = folder / "definitions.cpp"
-    source.write_text("#include <povundiri.hpp>\n")
+    source.write_text("#include <povundiri.hpp>\n#include <povundiri_recording.hpp>\n")
     thrown, plain = own_lines(source), own_lines(source, "-fno-exceptions")
-    found = any("class Recorder" in line for line in thrown)
+    found = all(any(name in line for line in thrown) for name in ("class Recorder", "class Recording", "class BadName"))
     yield "the same definitions with exceptions and without", None if found and thrown == plain else "they differ"
 
 

@@ -30,59 +30,14 @@ LEFT: list[tuple[str, str, str]] = [
         "Ready Learned",
     ),
     (
-        "one step, of an allocation, of a shared cursor, of a publish, of the machine and of a follower's merge",
-        "alloc_core/Alloc list_core/Cursor list_core/Publish segment_machine/State segment_merge/Steps",
+        "one step, of an allocation, of a shared cursor, of a publish and of the machine",
+        "alloc_core/Alloc list_core/Cursor list_core/Publish segment_machine/State",
         "IsStep",
-    ),
-    (
-        "of the entries of a running call, and of histograms by their names",
-        "segment_invariant/Invariant segment_merge/Noted",
-        "AreInOrder",
-    ),
-    (
-        "of the list that an actor has walked, and of histograms by their names",
-        "hist_core/StepsBy segment_merge/Noted",
-        "IsInOrder",
-    ),
-    (
-        "of a call before its first event, and of a name before another",
-        "hist_core/ActorRun segment_merge/Noted",
-        "IsBefore",
-    ),
-    (
-        "a reading has less than an earlier one, by sums and by what is noted",
-        "reading_sums/Since segment_merge/Noted",
-        "HasFallen",
-    ),
-    (
-        "of units above a mark, and of inputs that all fit",
-        "segment_merge/Marks sum_commands/Sources",
-        "HasRoom",
     ),
     (
         "why words are not adopted, and what is damaged in an image that is added up",
         "image_adoption/Damage sum_commands/Inputs",
         "IsDamageOf",
-    ),
-    (
-        "of a record that is opened, and of words that C merges",
-        "live_segment/Hist/Opened povundiri_c/Merging",
-        "IsNotRead",
-    ),
-    (
-        "of a call from C, and of one histogram of a merge",
-        "povundiri_c/Merging segment_merge/Follow",
-        "IsReported",
-    ),
-    (
-        "of a call from C, and of one histogram of a merge",
-        "povundiri_c/Merging segment_merge/Parts",
-        "Merges",
-    ),
-    (
-        "of a call from C, and of one histogram of a merge",
-        "povundiri_c/Recorders segment_merge/Follow",
-        "Adds",
     ),
     (
         "a state of the whole machine, and of a segment and its allocations alone",
@@ -162,8 +117,13 @@ LEFT: list[tuple[str, str, str]] = [
     ),
     (
         "the same, of the command line of each program",
-        "persist_report/Failure stepped/Failure",
-        "IsFailureOf IsMistake UsageIsMistake",
+        "report_requests/Mistakes stepped/Failure",
+        "IsMistake",
+    ),
+    (
+        "the same, of what each program reports",
+        "persist_report/Unmet stepped/Failure",
+        "UsageIsMistake",
     ),
 ]
 

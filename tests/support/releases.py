@@ -8,11 +8,11 @@ import pathlib
 import re
 import shutil
 import subprocess
+import time
 from collections.abc import Callable, Iterator
 
-from parts import c
-from support import native, packaged, readme
-from support.program import ROOT, Answer, Case, Word, answer, difference
+from support import native, packaged, readme, timed
+from support.program import ROOT, Case, Word, answer
 
 GATE = "7 passed, 0 failed"
 PROVED = "crates/povundiri_c/out/libpovundiri_c.a"
@@ -154,16 +154,6 @@ def refusals(clone: Clone) -> Iterator[Case]:
         restore()
 
 
-def halved(text: str) -> str:
-    """What a program recorded that was run once, by what it records when it is run twice."""
-    found = []
-    for line in text.splitlines():
-        name, kind, *numbers = line.split(",")
-        keys, counts = (numbers[:-1], numbers[-1:]) if kind != "total" else ([], numbers)
-        found.append(",".join([name, kind, *keys, *(str(int(count) // 2) for count in counts)]))
-    return "".join(f"{line}\n" for line in found)
-
-
 def installer(unpacked: pathlib.Path, home: pathlib.Path, *words: Word) -> subprocess.CompletedProcess[bytes]:
     """What the script of a release makes of these words."""
     line: list[Word] = ["sh", unpacked / "install.sh", *words]
@@ -176,14 +166,18 @@ def wrong_use(release: pathlib.Path, home: pathlib.Path) -> str | None:
     shutil.copy(release, home)
     setting = packaged.bare(home)
     lines = readme.block(readme.RELEASE)
+    start = time.monotonic()
     said = native.run([*packaged.without_network(), "bash", "-ec", "\n".join(lines)], cwd=home, env=setting)
+    seconds = time.monotonic() - start
     unpacked = next(path for path in home.iterdir() if path.is_dir() and path.name.startswith("povundiri-"))
     shown = said.splitlines()
     if "request_us" not in said or not any(re.match(r" *\[\d[\d,]*, \d[\d,]*\) ", line) for line in shown):
         return f"it shows {said[-1000:]}"
     program = home / ".local" / "bin" / "persist_report"
     recorded = answer(program, ["report", unpacked / "metrics"], cwd=home, env=setting)
-    if wrong := difference(Answer(halved(c.RECORDED_BY_README).encode()), recorded):
+    if recorded.status != 0:
+        return f"report: {recorded}"
+    if wrong := timed.wrong(recorded.output.decode(), 1, seconds):
         return wrong
     came = installer(unpacked, home, "--uninstall", home / ".local")
     left = sorted((home / ".local").rglob("*"))

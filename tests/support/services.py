@@ -21,6 +21,9 @@ from support.program import ROOT, Answer, Case, Path, answer
 SOURCE = ROOT / "examples" / "cpp" / "service.cpp"
 MOST_SECONDS = 120
 ENOUGH = 200
+# What its histograms are for, with those of which it knows none.
+ROUTES = ("/", "/cart", "/item", "_other")
+COUNT = r'^povundiri_units_count\{histogram="latency_us",route="[^}]*\} (\d+)$'
 LOOKS = 300
 # Different texts of its metrics that are waited for, with one before the first.
 TEXTS = 4
@@ -31,8 +34,8 @@ FIRST = "0000000001.seg"
 
 def requests_of(report: Answer) -> int:
     """How many requests a report has."""
-    total = re.search(rb"^latency_us,total,(\d+),", report.output, re.MULTILINE)
-    return 0 if total is None else int(total[1])
+    totals = re.findall(rb"^latency_us\{route=[^,]*\},total,(\d+),", report.output, re.MULTILINE)
+    return sum(map(int, totals))
 
 
 class Service:
@@ -153,9 +156,9 @@ def publishes(service: Service) -> str | None:
         while len(found) < TEXTS and running.poll() is None and time.monotonic() < ends:
             time.sleep(0.05)
             text = metrics.read_text() if metrics.exists() else ""
-            count = re.search(r'^povundiri_units_count\{[^}]*"latency_us"[^}]*\} (\d+)$', text, re.MULTILINE)
-            if count is not None and int(count[1]) != found[-1]:
-                found.append(int(count[1]))
+            counts_there = re.findall(COUNT, text, re.MULTILINE)
+            if counts_there and sum(map(int, counts_there)) != found[-1]:
+                found.append(sum(map(int, counts_there)))
         running.send_signal(signal.SIGTERM)
         said, errors = running.communicate(timeout=MOST_SECONDS)
     served, _ = counts(said) or (0, 0)
@@ -174,12 +177,14 @@ def ends_well(service: Service) -> str | None:
 
 def has_another_spec(service: Service) -> str | None:
     """A release before had other buckets: it records into the next segment."""
-    folder = service.made("spec", 'recorder.add_or_throw(recorder.linear("latency_us", 1, 500, 10), 17);')
+    names = ", ".join(f'"latency_us{{route={route}}}"' for route in ROUTES)
+    add = "recorder.add_or_throw(recorder.linear(name, 1, 500, 10), 17);"
+    folder = service.made("spec", f"for (const char* name : {{{names}}}) {add}")
     said, errors = service.ended(folder)
     served, missed = counts(said) or (0, 0)
     segments = sorted(path.name for path in folder.glob("*.seg"))
     # A text shows the buckets of the older segment.
-    wrong = errors or served < ENOUGH or missed != 0 or service.recorded(folder) != 1
+    wrong = errors or served < ENOUGH or missed != 0 or service.recorded(folder) != len(ROUTES)
     return f"{said} {errors} {segments}" if wrong or segments != [FIRST, "0000000002.seg"] else None
 
 

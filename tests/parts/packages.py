@@ -107,7 +107,9 @@ def wrong_flags(library: pathlib.Path) -> str | None:
         return "it has another name"
     if "NODELETE" not in dynamic or "TEXTREL" in dynamic or "SYMBOLIC" in dynamic:
         return f"it is loaded otherwise: {dynamic}"
-    return None
+    wanted = native.run(["nm", "-D", "--undefined-only", "--with-symbol-versions", library])
+    foreign = [line for line in wanted.splitlines() if " U " in line and "@GLIBC_" not in line]
+    return f"it wants {foreign}" if foreign or " U " not in wanted else None
 
 
 def wrong_symbols(library: pathlib.Path, folder: pathlib.Path) -> str | None:

@@ -6,15 +6,15 @@ cat > shop.cpp <<'END'
 #include <chrono>
 #include <random>
 #include <thread>
+using namespace std::chrono_literals;
 int main() {
     povundiri::Recording recording("metrics");
-    const auto order = recording.scale("order_us", 1, 10'000'000, 5);
+    const auto order = recording.scale<std::chrono::microseconds>("order_us", 1us, 10s, 5);
     std::mt19937 random;
     std::exponential_distribution<> mean(1.0 / 800);
     for (;;) {
-        const auto begin = std::chrono::steady_clock::now();
+        povundiri::Timer timer(order);
         std::this_thread::sleep_for(std::chrono::microseconds(static_cast<int>(mean(random))));
-        order.add(std::chrono::duration_cast<std::chrono::microseconds>(std::chrono::steady_clock::now() - begin).count());
     }
 }
 END

@@ -12,7 +12,7 @@ import tempfile
 from collections.abc import Iterator, Mapping
 
 from support import native, packaged
-from support.program import ROOT
+from support.program import ROOT, Word
 
 MOST_SECONDS = 3600
 SBIN = "/usr/sbin:/usr/bin:/sbin:/bin"
@@ -82,7 +82,8 @@ def entered(below: Below, script: str, given: Mapping[str, bytes | pathlib.Path]
             data = content if isinstance(content, bytes) else content.read_bytes()
             (pathlib.Path(gifts) / name).write_bytes(data)
         os.chmod(gifts, 0o755)
-        line = ["unshare", "-mnpf", "bash", "-c", ENTERED, "bash", below.folder, room, gifts, ":".join(below.emptied)]
+        emptied = ":".join(below.emptied)
+        line: list[Word] = ["unshare", "-mnpf", "bash", "-c", ENTERED, "bash", below.folder, room, gifts, emptied]
         setting = {**packaged.bare(pathlib.Path("/root")), "PATH": SBIN}
         said = native.run([*line, script, *words], seconds=MOST_SECONDS, env=setting).splitlines()
     left = [text.removeprefix("/left: ") for text in said if text.startswith("/left: ")]

@@ -3,6 +3,7 @@
 #include "povundiri.hpp"
 
 #include <array>
+#include <atomic>
 #include <cstdlib>
 #include <set>
 #include <thread>
@@ -313,6 +314,40 @@ void followers_pass_over() {
     HOLDS(report.added == 2 && report.left == 5 && report.passed == 1 && std::string(report.name) == "b");
 }
 
+// The sum of a look is of another moment than its units, so it may cost as much again; but all looks at an honest child cost at most twice its
+// units together. The amount of each sample here costs as much as its unit.
+void followers_cost() {
+    constexpr int kLooks = 500;
+    constexpr std::uint64_t kEnough = 4'000'000'000;
+    Segment segment, of_child;
+    Recorder recorder;
+    povundiri::Follower follower(10);
+    std::atomic<bool> ends{false};
+    std::uint64_t counted = 0, added = 0, cost = 0;
+    DONE(Segment::try_create(kShape, segment));
+    DONE(Segment::try_create(kShape, of_child));
+    DONE(segment.try_recorder(recorder));
+    const auto follow = [&] {
+        povundiri::MergeReport report;
+        std::vector<std::uint64_t> image;
+        DONE(of_child.try_look(image));
+        DONE(follower.try_merge(recorder, image, kEnough, report));
+        added += report.added;
+        cost += report.cost;
+    };
+    std::thread child([&] {
+        Recorder own;
+        Hist hist;
+        if (of_child.try_recorder(own) != Status::Done || own.try_linear("l", 1, 1000, 10, hist) != Status::Done) return;
+        while (!ends) counted += own.add(hist, 2'147'483'646);
+    });
+    for (int look = 0; look < kLooks; ++look) follow();
+    ends = true;
+    child.join();
+    follow();
+    HOLDS(added > 0 && added == counted && added <= cost && cost <= 2 * added);
+}
+
 void corrupt() {
     Segment segment;
     Recorder recorder;
@@ -585,6 +620,7 @@ int main() {
     failed += group("merges stop", merges_stop);
     failed += group("followers", followers);
     failed += group("followers pass over", followers_pass_over);
+    failed += group("what followers cost", followers_cost);
     failed += group("corrupt", corrupt);
     failed += group("moves", moves);
     failed += group("names", names);

@@ -1,5 +1,6 @@
 /* Followers where something is missing: each allocation of each of their calls is refused alone, and the segment into which they merge is
- * full at each place, or has too few units. In the end each unit of the child is there once. The library's heap is that of heap.h. */
+ * full at each place, or has too few units. In the end each unit of the child is there once. An image with more keys than a follower takes is
+ * refused before memory is taken for its counts. The library's heap is that of heap.h. */
 #include <stdlib.h>
 
 #include "checks.h"
@@ -246,10 +247,56 @@ static void too_few_units(void) {
     HOLDS(blocks == 0);
 }
 
+/* ---- Too many keys ---- */
+
+enum { LARGE = 8192, LARGE_PAGE = 4096, HISTS = 400, BUCKETS = 1000, KEYS = HISTS * BUCKETS };
+
+/* A look at a segment of so many histograms, in which nobody has counted: each has all its buckets as keys. */
+static void look_at_many(uint64_t *words) {
+    const struct povundiri_shape shape = {LARGE, LARGE_PAGE, 7, 0, 2};
+    struct povundiri_handle segment = {0}, recorder = {0};
+    size_t hist = 0;
+    int i;
+    DONE(povundiri_create(shape, &segment));
+    DONE(povundiri_recorder(&segment, 1, &recorder));
+    for (i = 0; i < HISTS; i += 1) {
+        char name[8];
+        snprintf(name, sizeof name, "h%03d", i);
+        DONE(povundiri_hist_linear(&recorder, name, 1, 2147483646, BUCKETS, &hist));
+    }
+    DONE(povundiri_segment_look(&segment, words, LARGE, NULL));
+    DONE(povundiri_drop(&recorder));
+    DONE(povundiri_drop(&segment));
+}
+
+/* A count takes at least 32 bytes; what is refused, no more than ten times the image. */
+static void too_many_keys(void) {
+    static uint64_t words[LARGE];
+    struct parent parent = parent_of(1, UNITS);
+    struct povundiri_handle strict = {0};
+    struct povundiri_merge_report report = {0};
+    uint64_t units = 9;
+    size_t before;
+    look_at_many(words);
+    DONE(povundiri_follower_new(KEYS - 1, &strict));
+    DONE(povundiri_follower_new(KEYS, &parent.follower));
+    most_kept = before = kept;
+    ANSWERS(TOO_MANY_KEYS, povundiri_follower_merge(&strict, &parent.recorder, words, LARGE, UNITS, &report));
+    ANSWERS(TOO_MANY_KEYS, povundiri_follower_skip(&strict, words, LARGE, &units));
+    ANSWERS(TOO_MANY_KEYS, povundiri_merge(&parent.recorder, words, LARGE, KEYS - 1, &report));
+    HOLDS(kept == before && most_kept < before + 10 * sizeof words && units == 9);
+    DONE(povundiri_follower_merge(&parent.follower, &parent.recorder, words, LARGE, UNITS, &report));
+    HOLDS(most_kept > before + 32 * (size_t)KEYS && report.added == 0);
+    DONE(povundiri_drop(&strict));
+    drop(&parent);
+    HOLDS(blocks == 0);
+}
+
 int main(void) {
     int failed = group("looks at the child", look_twice);
     failed += group("each allocation", each_allocation);
     failed += group("full at each place", full_at_each_place);
     failed += group("too few units", too_few_units);
+    failed += group("too many keys", too_many_keys);
     return failed != 0;
 }

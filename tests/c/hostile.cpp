@@ -4,8 +4,9 @@
 //     hostile FOLDER
 //
 // The child is this program again. It writes random words, forged counts and sums, other ids, lists that are shorter, and lists of millions
-// of keys, and now and then the words that it had when it was honest. Whatever it writes, the parent gets statuses; no call adds more units
-// than it may; what the calls said that they added is what the parent has; and the parent's own samples are counted.
+// of keys, and now and then the words that it had when it was honest: looks that have just these are followed too, and are not counted.
+// Whatever it writes, the parent gets statuses; no call adds more units than it may; what the calls said that they added is what the parent
+// has; and the parent's own samples are counted.
 
 #include <fcntl.h>
 #include <signal.h>
@@ -40,7 +41,7 @@ using Words = std::vector<std::uint64_t>;
 constexpr povundiri::Shape kShape = povundiri::shape(40'960, 4096);
 constexpr std::uint32_t kOwnValues[] = {7, 77, 7777}, kCustomValues[] = {10, 100, 1000};
 constexpr std::uint64_t kMostKeys = 100'000;
-// So many hostile looks have to reach a follower, within so many seconds also on a busy machine.
+// So many looks that are not those of an honest child have to reach a follower, within so many seconds also on a busy machine.
 constexpr int kLooks = 1000, kMostSeconds = 250;
 
 // ---- The child ----
@@ -174,7 +175,7 @@ private:
     std::vector<std::size_t> records_;
 };
 
-// Begins as an honest child does. It has a histogram of the parent's name with another spec.
+// Begins as an honest child does, and stops, so that the parent can look. It has a histogram of the parent's name with another spec.
 [[noreturn]] void child(int descriptor, std::uint32_t seed) {
     prctl(PR_SET_PDEATHSIG, SIGKILL);
     povundiri::SharedSegment segment({descriptor});
@@ -187,7 +188,9 @@ private:
             if (!recorder.add(hist, value)) std::_Exit(5);
         }
     }
-    Hostile(descriptor, seed).run();
+    Hostile hostile(descriptor, seed);
+    raise(SIGSTOP);
+    hostile.run();
 }
 
 // ---- The parent ----
@@ -254,9 +257,10 @@ public:
         Words image;
         while (!is_enough() && Clock::now() < end) {
             const Status status = memory_.try_look(image);
-            HOLDS(status == Status::Done || is_of_header(status));
+            HOLDS(status == Status::Done || status == Status::AdoptOldVersion || is_of_header(status));
             if (status != Status::Done) continue;
             ++looks_;
+            is_hostile_ = image != honest_;
             if (looks_ % 2 == 0) into_recording(image);
             if (looks_ % 2 != 0) into_sink(image);
             if (looks_ % 50 == 0) recording_.fold();
@@ -264,10 +268,11 @@ public:
         HOLDS(is_enough());
     }
 
+    // Starts the child, and looks at it while it is honest.
     void begin() {
         const std::string descriptor = std::to_string(memory_.descriptor());
         process_ = fork();
-        if (process_ != 0) return;
+        if (process_ != 0) return look_first();
         fcntl(memory_.descriptor(), F_SETFD, 0);
         execl("/proc/self/exe", "hostile", "child", descriptor.c_str(), "1", nullptr);
         _exit(91);
@@ -295,6 +300,13 @@ private:
         return options;
     }
 
+    void look_first() {
+        int status = 0;
+        HOLDS(waitpid(process_, &status, WUNTRACED) == process_ && WIFSTOPPED(status));
+        DONE(memory_.try_look(honest_));
+        HOLDS(kill(process_, SIGCONT) == 0);
+    }
+
     bool is_enough() const {
         static constexpr Status kWanted[] = {Status::Fell,        Status::OtherSegment,     Status::CostsMore,
                                              Status::TooManyKeys, Status::RefusedOtherSpec, Status::RefusedNoUnits};
@@ -307,8 +319,10 @@ private:
         return kAll[chance_() % std::size(kAll)];
     }
 
+    // Of a look that a follower was given: what came of it, if the child was hostile.
     void note(Status status) {
         HOLDS(is_answer(status));
+        if (!is_hostile_) return;
         ++met_[status];
         reached_ += !is_of_header(status);
     }
@@ -365,6 +379,9 @@ private:
     Follower follower_{kMostKeys}, other_{kMostKeys};
     Sink sink_;
     std::mt19937 chance_;
+    // The words of the child when it was honest, and whether those of the last look are others.
+    Words honest_;
+    bool is_hostile_ = false;
     Counted met_;
     int looks_ = 0, reached_ = 0;
     std::uint64_t counted_ = 0, added_ = 0, skipped_ = 0, given_up_ = 0;

@@ -9,6 +9,7 @@
 #include <functional>
 #include <mutex>
 #include <string>
+#include <vector>
 
 #include "checks.hpp"
 #include "povundiri_recording.hpp"
@@ -109,4 +110,46 @@ inline bool in_child(const std::function<bool()>& says) {
     if (child == 0) _exit(says() ? 0 : 1);
     int status = 0;
     return child > 0 && waitpid(child, &status, 0) == child && WIFEXITED(status) && WEXITSTATUS(status) == 0;
+}
+
+// How many of so many children, which begin at once, say so, by their status.
+inline int children_at_once(int children, const std::function<bool()>& says) {
+    int gate[2], said = 0;
+    std::vector<pid_t> started;
+    HOLDS(pipe(gate) == 0);
+    for (int i = 0; i < children; ++i) {
+        started.push_back(fork());
+        if (started.back() != 0) continue;
+        char byte;
+        close(gate[1]);
+        _exit(read(gate[0], &byte, 1) == 0 && says() ? 0 : 1);
+    }
+    HOLDS(close(gate[0]) == 0 && close(gate[1]) == 0);
+    for (const pid_t child : started) {
+        int status = 1;
+        HOLDS(waitpid(child, &status, 0) == child);
+        said += status == 0;
+    }
+    return said;
+}
+
+// ---- The program ----
+
+// A group of checks that takes root, for what `why` says only root can do; without root it is left out.
+inline int group_of_root(const char* name, void (*checks)(), const char* why) {
+    return geteuid() == 0 ? group(name, checks) : left_out(name, why);
+}
+
+// Runs the groups in the folder that the program was given.
+inline int in_folder(int count, char** words, int (*run)()) {
+    if (count != 2) return 2;
+    home = words[1];
+    return run() != 0;
+}
+
+// The same of a program that runs the groups with threads alone where it was given a second word.
+inline int in_folder(int count, char** words, int (*run)(bool only_threads)) {
+    if (count != 2 && count != 3) return 2;
+    home = words[1];
+    return run(count == 3) != 0;
 }

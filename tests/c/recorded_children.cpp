@@ -322,11 +322,7 @@ void two_specs() {
     HOLDS(recording.missed() == 0);
 }
 
-}  // namespace
-
-int main(int count, char** words) {
-    if (count != 2) return 2;
-    home = words[1];
+int run() {
     int failed = group("followed", followed);
     failed += group("kept", kept);
     failed += group("units", units);
@@ -342,5 +338,9 @@ int main(int count, char** words) {
     failed += group("a forged name", forged_name);
     failed += group("a metric after", child_first);
     failed += group("two specs of children", two_specs);
-    return failed != 0;
+    return failed;
 }
+
+}  // namespace
+
+int main(int count, char** words) { return in_folder(count, words, run); }

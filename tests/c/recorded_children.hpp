@@ -7,30 +7,17 @@
 #include <cerrno>
 #include <cstdint>
 #include <cstdlib>
-#include <ctime>
 #include <string>
 #include <utility>
 #include <vector>
 
 #include "recorded.hpp"
+#include "shown_clock.hpp"
 
 // ---- The system's calls, in place of which the tests have their own (-Wl,--wrap=) ----
 
 // Whether the device of the folder is full, and whether that ends with the next file that is removed.
 inline std::atomic<bool> device_is_full{false}, is_freed_by_removal{false};
-
-// What the clock shows, in nanoseconds, if a test sets it; else 0.
-inline std::atomic<std::int64_t> shown{0};
-
-// A clock that advances by a microsecond each time that it is read, and by what pass() adds.
-class Clock {
-   public:
-    Clock() { shown = std::int64_t{1} << 50; }
-    ~Clock() { shown = 0; }
-    Clock(const Clock&) = delete;
-    Clock& operator=(const Clock&) = delete;
-    void pass(std::int64_t milliseconds) { shown += milliseconds * 1'000'000; }
-};
 
 // Which of the next allocations of this thread is refused, from 0 on; -1: none. How many were refused.
 inline thread_local int until_refused = -1;
@@ -69,15 +56,6 @@ std::uint32_t __wrap_povundiri_proved_follower_merge(povundiri_handle* follower,
     const std::uint32_t status = __real_povundiri_proved_follower_merge(follower, recorder, words, length, most, name, name_length, totals);
     place.store(nullptr, std::memory_order_relaxed);
     return status;
-}
-
-int __real_clock_gettime(clockid_t which, timespec* time);
-int __wrap_clock_gettime(clockid_t which, timespec* time) {
-    if (shown == 0) return __real_clock_gettime(which, time);
-    const std::int64_t now = shown += 1000;
-    time->tv_sec = static_cast<std::time_t>(now / 1'000'000'000);
-    time->tv_nsec = static_cast<long>(now % 1'000'000'000);
-    return 0;
 }
 
 int __real_posix_fallocate(int descriptor, off_t from, off_t length);

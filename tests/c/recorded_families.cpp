@@ -270,8 +270,4 @@ int run(bool with_threads_alone) {
 
 }  // namespace
 
-int main(int count, char** words) {
-    if (count != 2 && count != 3) return 2;
-    home = words[1];
-    return run(count == 3) != 0;
-}
+int main(int count, char** words) { return in_folder(count, words, run); }

@@ -231,28 +231,13 @@ void swept() {
 void workers() {
     constexpr int kWorkers = 60, kSamples = 100;
     const std::string path = folder("workers");
-    int gate[2];
-    std::vector<pid_t> children;
-    HOLDS(pipe(gate) == 0);
-    for (int i = 0; i < kWorkers; ++i) {
-        children.push_back(fork());
-        if (children.back() != 0) continue;
-        char byte;
-        close(gate[1]);
-        if (read(gate[0], &byte, 1) != 0) _exit(1);
+    const int right = children_at_once(kWorkers, [&] {
         Recording recording;
-        if (!opens(path, recording, small()) || recording.began().number == 0) _exit(1);
+        if (!opens(path, recording, small()) || recording.began().number == 0) return false;
         for (int sample = 0; sample < kSamples; ++sample) metric_of(recording, "b").add(1);
-        _exit(recording.missed() == 0 ? 0 : 1);
-    }
-    HOLDS(close(gate[0]) == 0 && close(gate[1]) == 0);
-    int failed = 0;
-    for (const pid_t child : children) {
-        int status = -1;
-        HOLDS(waitpid(child, &status, 0) == child);
-        failed += status != 0;
-    }
-    HOLDS(failed == 0 && units_beside(path, "b") == kWorkers * kSamples && spares_in(path).empty());
+        return recording.missed() == 0;
+    });
+    HOLDS(right == kWorkers && units_beside(path, "b") == kWorkers * kSamples && spares_in(path).empty());
 }
 
 // How many names a file has.
@@ -474,8 +459,4 @@ int run() {
 
 }  // namespace
 
-int main(int count, char** words) {
-    if (count != 2) return 2;
-    home = words[1];
-    return run() != 0;
-}
+int main(int count, char** words) { return in_folder(count, words, run); }

@@ -142,8 +142,4 @@ int run() {
 
 }  // namespace
 
-int main(int count, char** words) {
-    if (count != 2) return 2;
-    home = words[1];
-    return run() != 0;
-}
+int main(int count, char** words) { return in_folder(count, words, run); }

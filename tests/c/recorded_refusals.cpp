@@ -15,88 +15,126 @@ namespace {
 
 // ---- Refusals ----
 
-void statuses() {
-    povundiri_recording* own = nullptr;
-    povundiri_handle follower = {}, none = {}, segment = {};
+// A recording of C, and a follower of at most three keys.
+struct Own {
+    explicit Own(const char* name) {
+        int fault = 0;
+        ANSWERS(DONE, povundiri_recording_open(folder(name).c_str(), nullptr, &recording, &fault));
+        ANSWERS(DONE, povundiri_follower_new(3, &follower));
+    }
+    Own(const Own&) = delete;
+    Own& operator=(const Own&) = delete;
+    ~Own() {
+        povundiri_recording_end(recording);
+        povundiri_drop(&follower);
+    }
+
+    std::uint32_t follow(const Words& words, std::uint64_t most, povundiri_merge_report* report) {
+        return povundiri_recording_follow(recording, &follower, words.data(), words.size(), most, report);
+    }
+    std::uint32_t give_up(const Words& words, povundiri_merge_report* report) {
+        return povundiri_recording_give_up(recording, &follower, words.data(), words.size(), report);
+    }
+
+    povundiri_recording* recording = nullptr;
+    povundiri_handle follower = {};
+};
+
+// What is wrong with a call.
+void mistakes() {
+    Own own("mistakes");
+    povundiri_handle none = {}, segment = {};
     povundiri_merge_report report = {};
-    int fault = 0;
     Child child(1);
     child.add("c", kBoolean, 1, 6);
     const Words words = child.look();
     const std::uint64_t* const at = words.data();
     const std::size_t length = words.size();
-    DONE(static_cast<Status>(povundiri_recording_open(folder("statuses").c_str(), nullptr, &own, &fault)));
-    DONE(static_cast<Status>(povundiri_follower_new(3, &follower)));
-    DONE(static_cast<Status>(povundiri_create(povundiri::shape(64, 64), &segment)));
+    ANSWERS(DONE, povundiri_create(povundiri::shape(64, 64), &segment));
     report.added = 77;
-    ANSWERS(NULL, povundiri_recording_follow(nullptr, &follower, at, length, 6, &report));
-    ANSWERS(NULL, povundiri_recording_follow(own, nullptr, at, length, 6, &report));
-    ANSWERS(NULL, povundiri_recording_follow(own, &follower, nullptr, length, 6, &report));
+    ANSWERS(NULL, povundiri_recording_follow(nullptr, &own.follower, at, length, 6, &report));
+    ANSWERS(NULL, povundiri_recording_follow(own.recording, nullptr, at, length, 6, &report));
+    ANSWERS(NULL, povundiri_recording_follow(own.recording, &own.follower, nullptr, length, 6, &report));
     ANSWERS(NULL, povundiri_recording_merge(nullptr, at, length, 6, &report));
-    ANSWERS(NULL, povundiri_recording_merge(own, nullptr, length, 6, &report));
-    ANSWERS(NULL, povundiri_recording_give_up(nullptr, &follower, at, length, &report));
-    ANSWERS(NULL, povundiri_recording_give_up(own, nullptr, at, length, &report));
-    ANSWERS(NULL, povundiri_recording_give_up(own, &follower, nullptr, length, &report));
+    ANSWERS(NULL, povundiri_recording_merge(own.recording, nullptr, length, 6, &report));
+    ANSWERS(NULL, povundiri_recording_give_up(nullptr, &own.follower, at, length, &report));
+    ANSWERS(NULL, povundiri_recording_give_up(own.recording, nullptr, at, length, &report));
+    ANSWERS(NULL, povundiri_recording_give_up(own.recording, &own.follower, nullptr, length, &report));
     report.size = sizeof report - 1;
-    ANSWERS(SHORT, povundiri_recording_follow(own, &follower, at, length, 6, &report));
-    ANSWERS(SHORT, povundiri_recording_merge(own, at, length, 6, &report));
-    ANSWERS(SHORT, povundiri_recording_give_up(own, &follower, at, length, &report));
+    ANSWERS(SHORT, own.follow(words, 6, &report));
+    ANSWERS(SHORT, povundiri_recording_merge(own.recording, at, length, 6, &report));
+    ANSWERS(SHORT, own.give_up(words, &report));
     HOLDS(report.added == 77 && report.size == sizeof report - 1);
     report.size = 0;
-    ANSWERS(EMPTY, povundiri_recording_follow(own, &none, at, length, 6, &report));
+    ANSWERS(EMPTY, povundiri_recording_follow(own.recording, &none, at, length, 6, &report));
     HOLDS(report.added == 0 && report.size == 0);
-    ANSWERS(EMPTY, povundiri_recording_give_up(own, &none, at, length, &report));
-    ANSWERS(OTHER_KIND, povundiri_recording_follow(own, &segment, at, length, 6, &report));
-    ANSWERS(OTHER_KIND, povundiri_recording_give_up(own, &segment, at, length, &report));
-    ANSWERS(IMAGE_TOO_SHORT, povundiri_recording_follow(own, &follower, nullptr, 0, 6, &report));
-    ANSWERS(IMAGE_TOO_SHORT, povundiri_recording_merge(own, nullptr, 0, 6, &report));
-    ANSWERS(IMAGE_TOO_SHORT, povundiri_recording_give_up(own, &follower, nullptr, 0, nullptr));
-    ANSWERS(TOO_MANY_KEYS, povundiri_recording_merge(own, at, length, 2, nullptr));
-    ANSWERS(COSTS_MORE, povundiri_recording_follow(own, &follower, at, length, 0, &report));
+    ANSWERS(EMPTY, povundiri_recording_give_up(own.recording, &none, at, length, &report));
+    ANSWERS(OTHER_KIND, povundiri_recording_follow(own.recording, &segment, at, length, 6, &report));
+    ANSWERS(OTHER_KIND, povundiri_recording_give_up(own.recording, &segment, at, length, &report));
+    ANSWERS(DONE, own.follow(words, 6, &report));
+    HOLDS(report.added == 6);
+    povundiri_drop(&segment);
+}
+
+// Images that are refused, and how large a report is.
+void images() {
+    Own own("images");
+    povundiri_merge_report report = {};
+    Child child(1);
+    child.add("c", kBoolean, 1, 6);
+    const Words words = child.look();
+    ANSWERS(IMAGE_TOO_SHORT, own.follow({}, 6, &report));
+    ANSWERS(IMAGE_TOO_SHORT, povundiri_recording_merge(own.recording, nullptr, 0, 6, &report));
+    ANSWERS(IMAGE_TOO_SHORT, own.give_up({}, nullptr));
+    ANSWERS(TOO_MANY_KEYS, povundiri_recording_merge(own.recording, words.data(), words.size(), 2, nullptr));
+    ANSWERS(COSTS_MORE, own.follow(words, 0, &report));
     HOLDS(report.cost == 6 && report.added == 0);
-    ANSWERS(COSTS_MORE, povundiri_recording_follow(own, &follower, at, length, 5, nullptr));
-    ANSWERS(DONE, povundiri_recording_follow(own, &follower, at, length, 6, nullptr));
-    ANSWERS(DONE, povundiri_recording_follow(own, &follower, at, length, 0, &report));
+    ANSWERS(COSTS_MORE, own.follow(words, 5, nullptr));
+    ANSWERS(DONE, own.follow(words, 6, nullptr));
+    ANSWERS(DONE, own.follow(words, 0, &report));
     // A later library's report has more, which stays as it is.
     struct {
         povundiri_merge_report known = {};
         std::uint64_t more = 77;
     } larger;
     larger.known.size = sizeof larger;
-    ANSWERS(DONE, povundiri_recording_follow(own, &follower, at, length, 0, &larger.known));
-    ANSWERS(DONE, povundiri_recording_give_up(own, &follower, at, length, &larger.known));
+    ANSWERS(DONE, own.follow(words, 0, &larger.known));
+    ANSWERS(DONE, own.give_up(words, &larger.known));
     HOLDS(larger.known.size == sizeof larger && larger.more == 77 && larger.known.left == 0);
     child.add("c", kBoolean, 0);
-    const Words later = child.look();
-    ANSWERS(DONE, povundiri_recording_follow(own, &follower, later.data(), later.size(), 1, &report));
+    ANSWERS(DONE, own.follow(child.look(), 1, &report));
     HOLDS(report.added == 1);
-    ANSWERS(FELL, povundiri_recording_follow(own, &follower, at, length, 6, &report));
-    ANSWERS(FELL, povundiri_recording_give_up(own, &follower, at, length, &report));
-    const Words another = Child(2).look();
-    ANSWERS(OTHER_SEGMENT, povundiri_recording_follow(own, &follower, another.data(), another.size(), 6, &report));
-    ANSWERS(OTHER_SEGMENT, povundiri_recording_give_up(own, &follower, another.data(), another.size(), &report));
+    ANSWERS(FELL, own.follow(words, 6, &report));
+    ANSWERS(FELL, own.give_up(words, &report));
+    ANSWERS(OTHER_SEGMENT, own.follow(Child(2).look(), 6, &report));
+    ANSWERS(OTHER_SEGMENT, own.give_up(Child(2).look(), &report));
     child.add("more", kBoolean, 0);
-    const Words many = child.look();
-    ANSWERS(TOO_MANY_KEYS, povundiri_recording_follow(own, &follower, many.data(), many.size(), 6, &report));
-    HOLDS(povundiri_recording_missed(own, POVUNDIRI_MISSED_CHILD) == 0);
-    // After its end it takes nothing, and units may be given up.
-    povundiri_recording_end(own);
-    child.add("c", kBoolean, 1, 2);
-    ANSWERS(EMPTY, povundiri_recording_follow(own, &follower, later.data(), later.size(), 6, &report));
-    ANSWERS(EMPTY, povundiri_recording_merge(own, at, length, 6, &report));
-    povundiri_drop(&follower);
-    DONE(static_cast<Status>(povundiri_follower_new(6, &follower)));
-    ANSWERS(DONE, povundiri_recording_give_up(own, &follower, at, length, &report));
-    HOLDS(report.left == 6 && povundiri_recording_missed(own, POVUNDIRI_MISSED_CHILD) == 6);
-    povundiri_drop(&follower);
-    povundiri_drop(&segment);
+    ANSWERS(TOO_MANY_KEYS, own.follow(child.look(), 6, &report));
+    HOLDS(povundiri_recording_missed(own.recording, POVUNDIRI_MISSED_CHILD) == 0);
+}
+
+// After its end a recording takes nothing, and units may be given up; a recording that is none takes neither.
+void without_a_recording() {
+    povundiri_merge_report report = {};
+    Child child(1);
+    child.add("c", kBoolean, 1, 6);
+    const Words words = child.look();
+    {
+        Own own("ended");
+        povundiri_recording_end(own.recording);
+        ANSWERS(EMPTY, own.follow(words, 6, &report));
+        ANSWERS(EMPTY, povundiri_recording_merge(own.recording, words.data(), words.size(), 6, &report));
+        ANSWERS(DONE, own.give_up(words, &report));
+        HOLDS(report.left == 6 && povundiri_recording_missed(own.recording, POVUNDIRI_MISSED_CHILD) == 6);
+    }
     Recording recording, empty;
     Follower of_none(kKeys);
     std::uint64_t given_up = 9;
-    RETURNS(Null, empty.try_follow(of_none, words, 6, report));
-    RETURNS(Null, empty.try_merge(words, 6, report));
+    MergeReport none;
+    RETURNS(Null, empty.try_follow(of_none, words, 6, none));
+    RETURNS(Null, empty.try_merge(words, 6, none));
     RETURNS(Null, empty.try_give_up(of_none, words, given_up));
-    HOLDS(opens(folder("statuses"), recording) && has(recording, "c", 7, 6));
+    HOLDS(opens(folder("ended"), recording) && units_in(recording.report(), "c") == -1);
 }
 
 // What is given up is missed once, and what comes later is added.
@@ -559,7 +597,9 @@ int run(bool only_threads) {
     failed += group("an end before", ends_before);
     failed += group("an end amid", ends_amid);
     if (only_threads) return failed;
-    failed += group("statuses", statuses);
+    failed += group("mistakes", mistakes);
+    failed += group("images", images);
+    failed += group("without a recording", without_a_recording);
     failed += group("given up", given_up);
     failed += group("too large", too_large);
     failed += group("refused memory", no_memory);
@@ -578,8 +618,4 @@ int run(bool only_threads) {
 
 }  // namespace
 
-int main(int count, char** words) {
-    if (count != 2 && count != 3) return 2;
-    home = words[1];
-    return run(count == 3) != 0;
-}
+int main(int count, char** words) { return in_folder(count, words, run); }

@@ -264,7 +264,6 @@ void ended() {
 }
 
 int run() {
-    const bool is_root = geteuid() == 0;
     int failed = group("an emptied folder", emptied);
     failed += group("a folder that is made again", made_again);
     failed += group("a removed folder", gone);
@@ -276,16 +275,12 @@ int run() {
     failed += group("a renamed folder", renamed);
     failed += group("a folder in a renamed one", renamed_above);
     failed += group("closed descriptors", closed);
-    failed += is_root ? group("another root", chrooted) : left_out("another root", "only root can change it");
-    failed += is_root ? group("another user", another_user) : left_out("another user", "only root can become one");
+    failed += group_of_root("another root", chrooted, "only root can change it");
+    failed += group_of_root("another user", another_user, "only root can become one");
     failed += group("after the end", ended);
     return failed;
 }
 
 }  // namespace
 
-int main(int count, char** words) {
-    if (count != 2) return 2;
-    home = words[1];
-    return run() != 0;
-}
+int main(int count, char** words) { return in_folder(count, words, run); }

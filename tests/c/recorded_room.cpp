@@ -296,10 +296,7 @@ void maintained_beside() {
 }
 
 int run() {
-    const bool is_root = geteuid() == 0;
-    const auto of_root = [is_root](const char* name, void (*checks)()) {
-        return is_root ? group(name, checks) : left_out(name, "only root can mount a device");
-    };
+    const auto of_root = [](const char* name, void (*checks)()) { return group_of_root(name, checks, "only root can mount a device"); };
     int failed = of_root("a full device", small_device);
     failed += of_root("a full device for threads", small_device_of_threads);
     failed += group("a full quota", quota);
@@ -314,8 +311,4 @@ int run() {
 
 }  // namespace
 
-int main(int count, char** words) {
-    if (count != 2) return 2;
-    home = words[1];
-    return run() != 0;
-}
+int main(int count, char** words) { return in_folder(count, words, run); }

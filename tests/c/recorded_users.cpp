@@ -255,10 +255,7 @@ void given_up() {
 }
 
 int run() {
-    const bool is_root = geteuid() == 0;
-    const auto of_root = [is_root](const char* name, void (*checks)()) {
-        return is_root ? group(name, checks) : left_out(name, "only root can become another user");
-    };
+    const auto of_root = [](const char* name, void (*checks)()) { return group_of_root(name, checks, "only root can become another user"); };
     int failed = of_root("a fold by root", fold_by_root);
     failed += of_root("a fold by root over files with other names", fold_gives_no_old_file);
     failed += of_root("a fold by another user", fold_by_another);
@@ -272,8 +269,4 @@ int run() {
 
 }  // namespace
 
-int main(int count, char** words) {
-    if (count != 2) return 2;
-    home = words[1];
-    return run() != 0;
-}
+int main(int count, char** words) { return in_folder(count, words, run); }

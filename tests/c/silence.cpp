@@ -49,26 +49,14 @@ void prefork() {
     constexpr int kWorkers = 24, kTimes = 4, kSamples = 1000;
     const std::string path = folder("prefork");
     for (int turn = 0; turn < kTimes; ++turn) {
-        int gate[2];
-        std::vector<pid_t> workers;
-        HOLDS(pipe(gate) == 0);
-        for (int i = 0; i < kWorkers; ++i) {
-            workers.push_back(fork());
-            if (workers.back() != 0) continue;
-            char byte;
-            close(gate[1]);
-            if (read(gate[0], &byte, 1) != 0) _exit(1);
+        const int right = children_at_once(kWorkers, [&] {
             Recording recording;
-            if (!opens(path, recording) || recording.began().number == 0) _exit(1);
+            if (!opens(path, recording) || recording.began().number == 0) return false;
             const Metric metric = recording.linear("latency", 1, 1000, 10);
             for (int value = 0; value < kSamples; ++value) metric.add(value);
-            _exit(recording.missed() == 0 ? 0 : 1);
-        }
-        HOLDS(close(gate[0]) == 0 && close(gate[1]) == 0);
-        for (const pid_t worker : workers) {
-            int status = 1;
-            HOLDS(waitpid(worker, &status, 0) == worker && status == 0);
-        }
+            return recording.missed() == 0;
+        });
+        HOLDS(right == kWorkers);
         Recording recording;
         std::uint64_t folded = 0;
         HOLDS(opens(path, recording) && !recording.try_fold(folded));
@@ -322,10 +310,7 @@ void drop_privileges() {
 }
 
 int run() {
-    const bool is_root = geteuid() == 0;
-    const auto of_root = [is_root](const char* name, void (*checks)()) {
-        return is_root ? group(name, checks) : left_out(name, "only root can do that");
-    };
+    const auto of_root = [](const char* name, void (*checks)()) { return group_of_root(name, checks, "only root can do that"); };
     int failed = group("prefork", prefork);
     failed += group("rm_under", rm_under);
     failed += group("tmpfiles", tmpfiles);
@@ -343,8 +328,4 @@ int run() {
 
 }  // namespace
 
-int main(int count, char** words) {
-    if (count != 2) return 2;
-    home = words[1];
-    return run() != 0;
-}
+int main(int count, char** words) { return in_folder(count, words, run); }

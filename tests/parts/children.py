@@ -78,6 +78,8 @@ class Child(bounds.Runs):
         self.sums: Sums = collections.Counter()
         self.met: collections.Counter[str] = collections.Counter()
         self.has_memory = False
+        # Whether all that the last look had was added.
+        self.is_level = True
 
     def take_memory(self) -> None:
         """Fresh memory, or the same as before."""
@@ -87,7 +89,8 @@ class Child(bounds.Runs):
             return
         self.shape = self.chance.choice(bounds.SHAPES)
         self.parent.tell("fresh", self.number, *self.shape)
-        self.before, self.sums, self.has_memory = collections.Counter(), collections.Counter(), True
+        self.before, self.sums = collections.Counter(), collections.Counter()
+        self.has_memory = self.is_level = True
 
     def begin(self) -> None:
         self.parent.tell("run", self.number, *self.words("shared", pathlib.Path("@"), self.tally))
@@ -97,6 +100,7 @@ class Child(bounds.Runs):
         added, left = self.parent.tell("follow", self.number)
         self.met["units"] += added
         self.met["looks with units left"] += left > 0
+        self.is_level = left == 0
         return left
 
     def end(self) -> str | None:
@@ -107,10 +111,11 @@ class Child(bounds.Runs):
         self.met["kills"] += 1
         self.met["amid a call"] += begun != ended
         self.met["before it counted"] += not any(data)
-        units = self.met["units"]
+        was_level, units = self.is_level, self.met["units"]
         if all(self.follow() for _ in range(MOST_TRIES)):
             return "units are left"
-        self.met["unseen"] += self.met["units"] > units
+        # What came then was not left by the look before, if that left nothing.
+        self.met["unseen"] += was_level and self.met["units"] > units
         return self.wrong(data)
 
     def wrong(self, data: bytes) -> str | None:

@@ -20,6 +20,7 @@ from collections.abc import Iterator, Sequence
 from typing import Any
 
 from parts import explained
+from support import versions
 from support.layout import MOST_BYTES
 from support.program import (
     EXAMPLE, MOST_SECONDS, SCRIPT, Answer, Case, Path, Word, answer, content, difference, fault,
@@ -512,7 +513,8 @@ def wrong_short_out(
 def words(program: pathlib.Path) -> Iterator[Case]:
     """The version, and command lines that ask for nothing that the program does."""
     asked: Sequence[Word]
-    yield "['--version']", difference(Answer(b"persist_report 0.9.0\n"), answer(program, ["--version"]))
+    wanted = f"persist_report {versions.version()}\n".encode()
+    yield "['--version']", difference(Answer(wanted), answer(program, ["--version"]))
     no_text: list[list[Word]] = [[b"\xc3", "report"], ["report", b"\xff\xfe"]]
     for asked in no_text:
         yield f"{asked}, which is not text", difference(Answer(error=NOT_TEXT, status=2), answer(program, asked))

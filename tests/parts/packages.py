@@ -19,12 +19,11 @@ from concurrent.futures import ThreadPoolExecutor
 from itertools import chain
 
 from parts import c
-from support import debugged, manuals, native, packaged, releases
+from support import debugged, manuals, native, packaged, releases, versions
 from support.packaged import BARE_PATH, PACKAGING, PROGRAMS
 from support.program import ROOT, Case, Word, answer, built
 
 PROGRAM = "persist_report"
-KINDS = ("povundiri", "povundiri-static")
 INSTALLER = PACKAGING / "install.sh"
 LIST = "share/povundiri/FILES"
 # What packaging/check.sh has to have passed, with each compiler and with CMake.
@@ -92,6 +91,7 @@ def contents(stage: pathlib.Path, again: pathlib.Path) -> Iterator[Case]:
     yield "that another file is found", None if found == "lib/libpovundiri.a" else f"{found}"
     yield "no file has a path of the build", with_paths(stage, [str(ROOT), str(stage.parent)])
     yield "what they were built of", wrong_build(stage)
+    yield "each says the version of VERSION", versions.wrong_installed(stage)
     for path in packaged.binaries(stage):
         newest = packaged.newest_glibc(path)
         wrong = None if newest <= packaged.NEWEST_GLIBC else f"it needs glibc {newest}"
@@ -107,7 +107,9 @@ def wrong_flags(library: pathlib.Path) -> str | None:
         return "it has another name"
     if "NODELETE" not in dynamic or "TEXTREL" in dynamic or "SYMBOLIC" in dynamic:
         return f"it is loaded otherwise: {dynamic}"
-    return None
+    wanted = native.run(["nm", "-D", "--undefined-only", "--with-symbol-versions", library])
+    foreign = [line for line in wanted.splitlines() if " U " in line and "@GLIBC_" not in line]
+    return f"it wants {foreign}" if foreign or " U " not in wanted else None
 
 
 def wrong_symbols(library: pathlib.Path, folder: pathlib.Path) -> str | None:
@@ -332,7 +334,7 @@ def wrong_page(prefix: pathlib.Path, source: pathlib.Path, kind: str, page: str)
 def pages(prefix: pathlib.Path, folder: pathlib.Path) -> Iterator[Case]:
     """The programs that README.md and C.md show, by both packages."""
     folder.mkdir()
-    works = [(name, source, kind) for name, source in c.shown_programs(folder) for kind in KINDS]
+    works = [(name, source, kind) for name, source in c.shown_programs(folder) for kind in versions.PACKAGES]
     yield "the pages show programs", None if len(works) >= 2 * len(c.PAGES) else f"only {works}"
 
     for name, source, kind in works:

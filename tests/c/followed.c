@@ -260,7 +260,7 @@ static void look_at_many(uint64_t *words) {
     DONE(povundiri_create(shape, &segment));
     DONE(povundiri_recorder(&segment, 1, &recorder));
     for (i = 0; i < HISTS; i += 1) {
-        char name[8];
+        char name[16];
         snprintf(name, sizeof name, "h%03d", i);
         DONE(povundiri_hist_linear(&recorder, name, 1, 2147483646, BUCKETS, &hist));
     }

@@ -77,7 +77,7 @@ uint32_t povundiri_proved_merge(struct povundiri_handle *recorder, const uint64_
  * THE IMAGE ITSELF IS UNCHANGED: merging it twice adds it twice. So it is for a segment that is dead, and is merged once.
  *
  * An image that reads as more keys than `most_keys`, the buckets of all its histograms and the values of the sparse ones, is refused before
- * memory is taken for its counts: a valid image of 8 MiB may have 65 million, and each takes at least 32 bytes.
+ * memory is taken for its counts: a valid image of 8 MiB may have 65 million, and each takes at least 24 bytes.
  * `report`, which may be null, says what was added, on any status but NULL and SHORT.
  *
  * Statuses: NULL; SHORT: `report->size` is not 0, and less than that of the first layout; EMPTY; IMAGE_..: the header has this fault;

@@ -260,7 +260,7 @@ static void look_at_many(uint64_t *words) {
     DONE(povundiri_create(shape, &segment));
     DONE(povundiri_recorder(&segment, 1, &recorder));
     for (i = 0; i < HISTS; i += 1) {
-        char name[8];
+        char name[16];
         snprintf(name, sizeof name, "h%03d", i);
         DONE(povundiri_hist_linear(&recorder, name, 1, 2147483646, BUCKETS, &hist));
     }
@@ -269,7 +269,7 @@ static void look_at_many(uint64_t *words) {
     DONE(povundiri_drop(&segment));
 }
 
-/* A count takes at least 32 bytes; what is refused, no more than ten times the image. */
+/* A key takes at least 24 bytes; what is refused, no more than ten times the image. */
 static void too_many_keys(void) {
     static uint64_t words[LARGE];
     struct parent parent = parent_of(1, UNITS);
@@ -286,7 +286,7 @@ static void too_many_keys(void) {
     ANSWERS(TOO_MANY_KEYS, povundiri_merge(&parent.recorder, words, LARGE, KEYS - 1, &report));
     HOLDS(kept == before && most_kept < before + 10 * sizeof words && units == 9);
     DONE(povundiri_follower_merge(&parent.follower, &parent.recorder, words, LARGE, UNITS, &report));
-    HOLDS(most_kept > before + 32 * (size_t)KEYS && report.added == 0);
+    HOLDS(most_kept > before + 24 * (size_t)KEYS && report.added == 0);
     DONE(povundiri_drop(&strict));
     drop(&parent);
     HOLDS(blocks == 0);

@@ -1,6 +1,7 @@
 // Samples counted by this library (alternatives.h). WAY is
 //
-//     recording    by povundiri_recording.hpp, in a folder
+//     recording    by povundiri_recording.hpp, in a folder, in as many segments as is usual
+//     one_shard    the same in one segment
 //     recorder     by povundiri.hpp, in a segment in a mapped file: each thread has a recorder with its usual lease
 //
 // What was counted is read from outside: of the folder's report, and of a look at the file.
@@ -50,6 +51,8 @@ plain::Counted counted_in(const std::string& report, const std::string& name, st
     return counted;
 }
 
+// With so many shards; 0: as is usual.
+template <std::uint64_t shards>
 class Recording {
 public:
     using Number = std::int32_t;
@@ -66,6 +69,7 @@ private:
     static povundiri::RecordingOptions options() {
         povundiri::RecordingOptions options;
         options.bytes = 8 * kWords;
+        options.shards = shards;
         return options;
     }
 
@@ -111,6 +115,7 @@ private:
 
 int main(int count, char** words) {
     const plain::Options options = plain::options_of(count, words);
-    if (options.way == "recording") return plain::measure<Recording>(options);
+    if (options.way == "recording") return plain::measure<Recording<0>>(options);
+    if (options.way == "one_shard") return plain::measure<Recording<1>>(options);
     return options.way == "recorder" ? plain::measure<Segment>(options) : plain::usage();
 }

@@ -2,14 +2,19 @@
 //
 //     recording_record FORM SHARING THREADS BURSTS
 //     recording_record rolls MILLISECONDS
+//     recording_record texts SHARDS
 //
-// The words and what is printed are those of record.cpp. Each burst has a recording of its own, in a folder of its own; before it, each
-// thread has counted one sample in each histogram.
+// The words and what is printed are those of record.cpp. Each burst has a recording of its own, in a folder of its own. Before it, each
+// thread has counted a sample, and two of each mounted histogram, whose counts are in use then; all of them begin at the same time.
 //
 // With `rolls` a thread counts a million samples, one of which begins a segment every MILLISECONDS. It prints, in nanoseconds, what 99.99 %
 // of the samples that begin none take at most, and the slowest of the others; and then how many others there are.
+//
+// With `texts` as many threads have counted in 60 scales of 1 to 10,000,000 in segments of 1 MiB, each in one of its own. It prints how many
+// microseconds a text for Prometheus, and a report, take at least.
 
 #include <algorithm>
+#include <atomic>
 #include <chrono>
 #include <cstdio>
 #include <cstdlib>
@@ -39,6 +44,7 @@ using Worker = std::vector<povundiri::Metric>;
 Worker worker_of(povundiri::Recording& recording, const Options& options, std::size_t number) {
     const std::size_t count = options.packed ? kHistograms : 1;
     Worker worker;
+    if (!recording.boolean("begun").add(1)) std::abort();
     for (std::size_t i = 0; i < count; ++i) {
         const std::size_t place = options.shared ? i : number * count + i;
         worker.push_back(recording.linear("h" + std::to_string(place), plain::kLeast, plain::kGreatest, plain::kBuckets));
@@ -78,17 +84,21 @@ povundiri::Recording recording_in(const plain::Folder& folder) {
 double burst(const Options& options, const std::vector<std::int32_t>& values) {
     const plain::Folder folder;
     povundiri::Recording recording = recording_in(folder);
-    std::vector<Worker> workers;
-    for (std::size_t i = 0; i < options.threads; ++i) workers.push_back(worker_of(recording, options, i));
     const std::size_t samples = options.packed ? kMostPacked / (options.shared ? options.threads : 1) : kMountedSamples;
-    const std::size_t recorded = workers[0].size() * samples;
-    const auto start = Clock::now();
+    std::atomic<std::size_t> waiting{0};
+    Clock::time_point start;
+    const auto work = [&](std::size_t number) {
+        const Worker worker = worker_of(recording, options, number);
+        if (++waiting == options.threads) start = Clock::now();
+        while (waiting < options.threads) continue;
+        record(worker, samples, values);
+    };
     std::vector<std::thread> running;
-    for (std::size_t i = 1; i < options.threads; ++i) running.emplace_back([&, i] { record(workers[i], samples, values); });
-    record(workers[0], samples, values);
+    for (std::size_t i = 1; i < options.threads; ++i) running.emplace_back(work, i);
+    work(0);
     for (std::thread& thread : running) thread.join();
     const std::chrono::duration<double, std::pico> took = Clock::now() - start;
-    return took.count() / static_cast<double>(recorded);
+    return took.count() / static_cast<double>((options.packed ? kHistograms : 1) * samples);
 }
 
 // Counts samples. Every now and then one takes nearly all units of a segment, so that the next such sample begins another segment.
@@ -112,11 +122,47 @@ void rolls(std::chrono::milliseconds apart) {
     std::printf("%.0f %.0f %zu\n", usual[usual.size() / 10'000 * 9'999], *std::max_element(rolling.begin(), rolling.end()), rolling.size());
 }
 
+// The least time of ten texts, in microseconds.
+template <typename Text>
+double least(const Text& text) {
+    double best = std::numeric_limits<double>::max();
+    for (int i = 0; i < 10; ++i) {
+        const auto start = Clock::now();
+        if (text().empty()) std::abort();
+        best = std::min(best, std::chrono::duration<double, std::micro>(Clock::now() - start).count());
+    }
+    return best;
+}
+
+void texts(std::size_t shards) {
+    constexpr int kScales = 60, kGreatest = 10'000'000;
+    const plain::Folder folder;
+    povundiri::RecordingOptions options;
+    options.shards = shards;
+    povundiri::Recording recording(folder.path(), options);
+    std::atomic<std::size_t> waiting{0};
+    const auto work = [&] {
+        for (int number = 0; number < kScales; ++number) {
+            const povundiri::Metric metric = recording.scale("request_" + std::to_string(number), 1, kGreatest, 5);
+            for (std::int64_t value = 1; value < kGreatest; value += 1 + value / 40) {
+                if (!metric.add(static_cast<std::int32_t>(value))) std::abort();
+            }
+        }
+        ++waiting;
+        while (waiting < shards) std::this_thread::yield();
+    };
+    std::vector<std::thread> running;
+    for (std::size_t i = 0; i < shards; ++i) running.emplace_back(work);
+    for (std::thread& thread : running) thread.join();
+    std::printf("%.0f %.0f\n", least([&] { return recording.prometheus(); }), least([&] { return recording.report(); }));
+}
+
 }  // namespace
 
 int main(int count, char** words) {
     if (count == 3) {
-        rolls(std::chrono::milliseconds(std::atoi(words[2])));
+        const int number = std::atoi(words[2]);
+        std::string_view(words[1]) == "texts" ? texts(static_cast<std::size_t>(number)) : rolls(std::chrono::milliseconds(number));
         return 0;
     }
     if (count != 5) {

@@ -155,9 +155,9 @@ struct povundiri_owned {
     char name[LONGEST_NAME]; /* empty: it has none yet */
 };
 
-/* What a start has found in a folder. */
+/* What is found in a folder. */
 struct povundiri_found {
-    struct povundiri_owned *newest;       /* the newest segment, if it is continued, or begun because nothing was begun before; else null */
+    struct povundiri_owned *newest;       /* a segment that is continued, or begun because nothing was begun in its file before; else null */
     bool is_adopted;                      /* it is continued */
     uint32_t refused;                     /* what is wrong with the image of the newest; else POVUNDIRI_DONE */
     char set_aside[POVUNDIRI_PATH_BYTES]; /* the new name of one whose header has a fault; else empty */
@@ -179,13 +179,17 @@ int povundiri_place_look(struct povundiri_place *place, bool *is_another);
 /* The folder by another descriptor, or what its path leads to by now. */
 int povundiri_place_copy(const struct povundiri_place *place, struct povundiri_held *held);
 
+/* The same place, with such a descriptor of its own; the path stays that of the first one. 0, or the system's fault: then it is not open. */
+int povundiri_place_share(const struct povundiri_place *place, struct povundiri_place *other);
+
 void povundiri_place_leave(struct povundiri_place *place);
 
-/* Adopts the newest segment, if it is final, has this shape, units and room, and the totals do not name it; or makes one in its file, if
- * nothing was begun there. No file is made. POVUNDIRI_DONE also if neither is done; POVUNDIRI_NO_MEMORY; POVUNDIRI_SYSTEM and *fault: the
- * folder could not be listed. */
-uint32_t povundiri_folder_adopt(const struct povundiri_place *place, struct povundiri_shape shape, struct povundiri_found *found,
-                                int *fault);
+/* Adopts the segment of the greatest number that is final, has this shape, units and room, and that the totals do not name. At a start of a
+ * recording, if nothing was begun in the file of the newest, a segment is made there; and if the header of the newest has a fault, that gets
+ * another name. No file is made. POVUNDIRI_DONE also if none is adopted; POVUNDIRI_NO_MEMORY; POVUNDIRI_SYSTEM and *fault: the folder could not
+ * be listed. */
+uint32_t povundiri_folder_adopt(const struct povundiri_place *place, struct povundiri_shape shape, bool is_start,
+                                struct povundiri_found *found, int *fault);
 
 /* A spare of this shape. On any but POVUNDIRI_DONE *spare is null; on POVUNDIRI_SYSTEM *fault is the system's. */
 uint32_t povundiri_folder_spare(struct povundiri_place *place, struct povundiri_shape shape, uint64_t random,

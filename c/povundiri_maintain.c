@@ -9,6 +9,22 @@
 /* How many times `fold_at` segments are folded by a thread that makes a spare, where no text does. */
 enum { MANY_TIMES = 4 };
 
+int povundiri_recording_folder(struct povundiri_recording *recording, struct povundiri_held *held) {
+    struct shard *const first = recording->shards;
+    size_t i;
+    int fault = 0, state;
+    pthread_setcancelstate(PTHREAD_CANCEL_DISABLE, &state);
+    for (i = recording->shard_count; i > 0; i -= 1) {
+        struct shard *const shard = &recording->shards[i - 1];
+        pthread_mutex_lock(&shard->mutex);
+        povundiri_segments_look(shard, true);
+        if (shard == first) fault = povundiri_place_copy(&shard->folder, held);
+        pthread_mutex_unlock(&shard->mutex);
+    }
+    pthread_setcancelstate(state, NULL);
+    return fault;
+}
+
 /* Folds, if there are `least` segments or more. */
 static uint32_t fold(struct povundiri_recording *recording, uint64_t least, uint64_t *folded, int *fault) {
     struct povundiri_held folder;
@@ -46,35 +62,67 @@ void povundiri_recording_fold_if_many(struct povundiri_recording *recording) {
     if (at <= UINT64_MAX / MANY_TIMES) (void)fold(recording, MANY_TIMES * at, &folded, &fault);
 }
 
-/* One thread folds, and the others wait for it. It has made room if it has removed a segment; so may have another process, which folds. */
-bool povundiri_recording_make_room(struct povundiri_recording *recording) {
-    uint64_t folded = 0;
-    uint32_t status;
-    int fault = 0;
+bool povundiri_recording_lacks_room(struct povundiri_recording *recording) {
+    bool lacks;
+    pthread_mutex_lock(&recording->mutex);
+    lacks = recording->lacks_room || recording->is_making_room;
+    pthread_mutex_unlock(&recording->mutex);
+    return lacks;
+}
+
+void povundiri_recording_forget_lack(struct povundiri_recording *recording) {
+    pthread_mutex_lock(&recording->mutex);
+    recording->lacks_room = false;
+    pthread_mutex_unlock(&recording->mutex);
+}
+
+/* Whether this thread is the one that folds; else it waits for that one first. The mutex of the recording is held. */
+static bool begins_to_fold(struct povundiri_recording *recording) {
     recording->lacks_room = false;
     if (recording->is_making_room) {
         while (recording->is_making_room) pthread_cond_wait(&recording->room, &recording->mutex);
-        return true;
+        return false;
     }
     recording->is_making_room = true;
+    return true;
+}
+
+/* One thread folds, and the others wait for it. It has made room if it has removed a segment; so may have another process, which folds. */
+static bool make_room(struct povundiri_recording *recording) {
+    uint64_t folded = 0;
+    uint32_t status;
+    int fault = 0;
+    bool is_mine, is_made;
+    pthread_mutex_lock(&recording->mutex);
+    is_mine = begins_to_fold(recording);
     pthread_mutex_unlock(&recording->mutex);
+    if (!is_mine) return true;
     status = fold(recording, 0, &folded, &fault);
+    is_made = folded > 0 || status == POVUNDIRI_BUSY;
     pthread_mutex_lock(&recording->mutex);
     recording->is_making_room = false;
+    if (is_made) recording->refusals = recording->again_at = 0;
     pthread_cond_broadcast(&recording->room);
-    if (folded == 0 && status != POVUNDIRI_BUSY) return false;
-    recording->refusals = 0;
-    recording->again_at = 0;
-    return true;
+    pthread_mutex_unlock(&recording->mutex);
+    return is_made;
+}
+
+bool povundiri_recording_make_room(struct shard *shard) {
+    bool is_made;
+    pthread_mutex_unlock(&shard->mutex);
+    is_made = make_room(shard->recording);
+    pthread_mutex_lock(&shard->mutex);
+    return is_made;
 }
 
 uint32_t povundiri_recording_maintain(struct povundiri_recording *recording) {
     uint32_t status;
+    size_t i;
     int state;
     if (recording == NULL) return POVUNDIRI_NULL;
     status = povundiri_recording_fold_if_due(recording);
     pthread_setcancelstate(PTHREAD_CANCEL_DISABLE, &state);
-    povundiri_segments_prepare(recording);
+    for (i = 0; i < recording->shard_count; i += 1) povundiri_segments_prepare(&recording->shards[i]);
     pthread_setcancelstate(state, NULL);
     return status == POVUNDIRI_BUSY ? (uint32_t)POVUNDIRI_DONE : status;
 }

@@ -19,11 +19,27 @@ bool povundiri_metrics_have_one_name(const struct povundiri_metric *one, const s
     return one->length == other->length && memcmp(one->name, other->name, one->length) == 0;
 }
 
+/* Which part has the metric of this number; *first is that of the first one there. */
+static size_t part_of(size_t metric, size_t *first) {
+    size_t part = 0, room = FIRST_METRICS;
+    for (*first = 0; metric - *first >= room; part += 1) {
+        *first += room;
+        room *= 2;
+    }
+    return part;
+}
+
+struct povundiri_metric *povundiri_metrics_at(const struct povundiri_metrics *metrics, size_t metric) {
+    size_t first;
+    const size_t part = part_of(metric, &first);
+    return metrics->parts[part][metric - first];
+}
+
 bool povundiri_metrics_find(const struct povundiri_metrics *metrics, const char *name, size_t length, struct povundiri_spec spec,
                             const uint32_t *values, size_t count, size_t *metric) {
     size_t i;
     for (i = 0; i < metrics->count; i += 1) {
-        const struct povundiri_metric *const other = metrics->all[i];
+        const struct povundiri_metric *const other = povundiri_metrics_at(metrics, i);
         if (other->length == length && memcmp(other->name, name, length) == 0 && is_same_spec(other, spec, values, count)) {
             *metric = i;
             return true;
@@ -33,8 +49,8 @@ bool povundiri_metrics_find(const struct povundiri_metrics *metrics, const char 
 }
 
 /* Whether a name and a spec are such as a histogram may have, and whether it is too large for segments of this shape, with samples in two
- * buckets: one in the heap says so. Where it says nothing else is known than before. */
-static uint32_t judge(struct povundiri_shape shape, struct povundiri_metric *metric) {
+ * buckets: one in the heap says so. */
+static uint32_t judge(struct povundiri_shape shape, const struct povundiri_metric *metric, bool *is_it) {
     struct povundiri_handle segment = {false, NULL}, recorder = {false, NULL};
     size_t hist = 0;
     uint32_t status = povundiri_create(shape, &segment);
@@ -46,12 +62,8 @@ static uint32_t judge(struct povundiri_shape shape, struct povundiri_metric *met
     if (status == POVUNDIRI_DONE) status = povundiri_add(&recorder, hist, INT32_MAX, 1);
     if (recorder.held) povundiri_drop(&recorder);
     if (segment.held) povundiri_drop(&segment);
-    if (status == POVUNDIRI_REFUSED_FULL || status == POVUNDIRI_REFUSED_TOO_LARGE) {
-        metric->is_too_large = true;
-        return POVUNDIRI_DONE;
-    }
-    if (status == POVUNDIRI_DONE) metric->is_too_large = false;
-    return status;
+    *is_it = status == POVUNDIRI_REFUSED_FULL || status == POVUNDIRI_REFUSED_TOO_LARGE;
+    return *is_it ? (uint32_t)POVUNDIRI_DONE : status;
 }
 
 static void end(struct povundiri_metric *metric) {
@@ -62,19 +74,35 @@ static void end(struct povundiri_metric *metric) {
     free(metric);
 }
 
+/* Where the next one comes, in a part that is made if it is not there; null if there is no memory. */
+static struct povundiri_metric **next_in(struct povundiri_metrics *metrics) {
+    size_t first;
+    const size_t part = part_of(metrics->count, &first);
+    if (metrics->parts[part] == NULL) {
+        metrics->parts[part] = (struct povundiri_metric **)calloc((size_t)FIRST_METRICS << part, sizeof *metrics->parts[part]);
+    }
+    return metrics->parts[part] == NULL ? NULL : &metrics->parts[part][metrics->count - first];
+}
+
+/* The number of the first one of this name, or the next number. */
+static size_t first_of_name(const struct povundiri_metrics *metrics, const struct povundiri_metric *metric) {
+    size_t i = 0;
+    while (i < metrics->count && !povundiri_metrics_have_one_name(povundiri_metrics_at(metrics, i), metric)) i += 1;
+    return i;
+}
+
 /* Puts a metric after the others. */
 static uint32_t put(struct povundiri_metrics *metrics, const char *name, size_t length, struct povundiri_spec spec, const uint32_t *values,
                     size_t count) {
-    struct povundiri_metric **const all = (struct povundiri_metric **)realloc(metrics->all, (metrics->count + 1) * sizeof *all);
+    struct povundiri_metric **const next = next_in(metrics);
     struct povundiri_metric *const metric = (struct povundiri_metric *)calloc(1, sizeof *metric);
     const bool is_bounded = spec.kind == POVUNDIRI_SPARSE && metrics->most_values <= UINT32_MAX;
-    if (all != NULL) metrics->all = all;
     if (metric != NULL) {
         metric->name = (char *)malloc(length + 1);
         metric->values = (uint32_t *)malloc((count + 1) * sizeof *values);
         if (is_bounded) metric->distinct = povundiri_distinct_new(metrics->most_values);
     }
-    if (all == NULL || metric == NULL || metric->name == NULL || metric->values == NULL || (is_bounded && metric->distinct == NULL)) {
+    if (next == NULL || metric == NULL || metric->name == NULL || metric->values == NULL || (is_bounded && metric->distinct == NULL)) {
         end(metric);
         return POVUNDIRI_NO_MEMORY;
     }
@@ -83,29 +111,40 @@ static uint32_t put(struct povundiri_metrics *metrics, const char *name, size_t 
     metric->length = length;
     metric->spec = spec;
     metric->count = count;
-    all[metrics->count] = metric;
-    metrics->count += 1;
+    metric->earlier = first_of_name(metrics, metric);
+    *next = metric;
     return POVUNDIRI_DONE;
 }
 
 uint32_t povundiri_metrics_add(struct povundiri_metrics *metrics, struct povundiri_shape shape, const char *name, size_t length,
                                struct povundiri_spec spec, const uint32_t *values, size_t count) {
+    struct povundiri_metric *metric;
     uint32_t status = put(metrics, name, length, spec, values, count);
     if (status != POVUNDIRI_DONE) return status;
-    status = judge(shape, metrics->all[metrics->count - 1]);
-    if (status != POVUNDIRI_DONE) povundiri_metrics_forget_last(metrics);
+    metric = povundiri_metrics_at(metrics, metrics->count);
+    status = judge(shape, metric, &metric->is_too_large);
+    if (status != POVUNDIRI_DONE) povundiri_metrics_forget(metrics);
     return status;
 }
 
-void povundiri_metrics_forget_last(struct povundiri_metrics *metrics) {
-    struct povundiri_metric *const metric = metrics->all[metrics->count - 1];
-    metrics->count -= 1;
-    end(metric);
+void povundiri_metrics_keep(struct povundiri_metrics *metrics) { __atomic_store_n(&metrics->count, metrics->count + 1, __ATOMIC_RELEASE); }
+
+void povundiri_metrics_forget(struct povundiri_metrics *metrics) {
+    struct povundiri_metric **const next = next_in(metrics);
+    end(*next);
+    *next = NULL;
 }
 
+/* What was too large for a smaller shape may fit here. What fits in a smaller one fits in all: so a call that ends late does no harm. */
 void povundiri_metrics_judge_again(struct povundiri_metrics *metrics, struct povundiri_shape shape) {
+    const size_t count = povundiri_metrics_count(metrics);
     size_t i;
-    for (i = 0; i < metrics->count; i += 1) {
-        if (metrics->all[i]->is_too_large) (void)judge(shape, metrics->all[i]);
+    for (i = 0; i < count; i += 1) {
+        struct povundiri_metric *const metric = povundiri_metrics_at(metrics, i);
+        bool is_still = true;
+        if (!is_too_large(metric)) continue;
+        if (judge(shape, metric, &is_still) == POVUNDIRI_DONE && !is_still) {
+            __atomic_store_n(&metric->is_too_large, false, __ATOMIC_RELAXED);
+        }
     }
 }

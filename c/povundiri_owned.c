@@ -86,10 +86,15 @@ static void set_aside(const struct povundiri_place *place, const struct povundir
     if (fault != 0) path[0] = 0;
 }
 
+/* Whether an image may be that of a segment of this shape. */
+static bool has_shape(const uint64_t *words, struct povundiri_shape shape) {
+    return words[SIZE_AT] == shape.size && words[PAGE_AT] == shape.page && words[VERSION_AT] == shape.version;
+}
+
 /* Whether the newest may be opened as a segment of this shape: it is final, and has it, or nothing was begun there. One whose header has a
  * fault gets another name. */
-static bool may_adopt(const struct povundiri_place *place, const struct povundiri_owned *owned, struct povundiri_shape shape,
-                      struct povundiri_found *found) {
+static bool may_adopt_newest(const struct povundiri_place *place, const struct povundiri_owned *owned, struct povundiri_shape shape,
+                             struct povundiri_found *found) {
     struct povundiri_held held;
     struct stat about;
     struct povundiri_image image;
@@ -103,7 +108,7 @@ static bool may_adopt(const struct povundiri_place *place, const struct povundir
             found->refused = status;
             set_aside(place, owned, found->set_aside);
         } else {
-            may = image.words[SIZE_AT] == shape.size && image.words[PAGE_AT] == shape.page && image.words[VERSION_AT] == shape.version;
+            may = has_shape(image.words, shape);
         }
     }
     free(image.bytes);
@@ -125,40 +130,69 @@ static void begin(const struct povundiri_place *place, struct povundiri_owned *o
     if (place->keeps_locks) povundiri_parts_close_descriptor(&owned->file);
 }
 
-uint32_t povundiri_folder_adopt(const struct povundiri_place *place, struct povundiri_shape shape, struct povundiri_found *found,
-                                int *fault) {
+/* Whether another segment than the newest may be opened, as far as its lock and its header say: who opens one that somebody has waits for it,
+ * and most that are final are full. */
+static bool may_adopt(int folder, const char *name, struct povundiri_shape shape) {
+    uint64_t words[1 + HEADER_WORDS] = {0};
+    struct povundiri_held held;
+    struct stat about;
+    size_t got = 0;
+    int fault = povundiri_parts_open_locked(&held, folder, name, &about);
+    if (fault != 0) return false;
+    fault = povundiri_parts_read(held.descriptor, words, sizeof words, 0, &got);
+    povundiri_parts_close(&held);
+    return fault == 0 && got == sizeof words && has_shape(words + 1, shape) && (words[1 + FLAGS_AT] & FLAG_FULL) == 0;
+}
+
+/* Opens one that may be: it is made no more if a fold takes it meanwhile. It stays under its name, and is read like any other, if it is not
+ * taken. */
+static bool is_taken(const struct povundiri_place *place, struct povundiri_owned *owned, struct povundiri_shape shape,
+                     struct povundiri_opened *opened) {
     const int folder = folder_of(place);
-    struct povundiri_listing listing;
+    const uint32_t status = povundiri_parts_open_in(folder, owned->name, shape, POVUNDIRI_FILE_EXISTING | place->flags, 0, &owned->file,
+                                                    &owned->segment, opened);
+    if (status != POVUNDIRI_DONE || opened->spent || is_folded(folder, owned, opened->shape.id)) return false;
+    begin(place, owned);
+    return true;
+}
+
+/* Takes the segment of this number, if it may. */
+static uint32_t adopt_number(const struct povundiri_place *place, struct povundiri_shape shape, uint64_t number, bool is_newest,
+                             struct povundiri_found *found) {
+    struct povundiri_owned *const owned = new_owned();
     struct povundiri_opened opened;
-    struct povundiri_owned *owned;
-    uint64_t number = 0;
-    uint32_t status;
-    memset(found, 0, sizeof *found);
-    *fault = povundiri_parts_list(folder, &listing);
-    if (*fault == 0 && listing.count > 0) number = listing.numbers[listing.count - 1];
-    free(listing.numbers);
-    if (*fault != 0) return POVUNDIRI_SYSTEM;
-    owned = number == 0 ? NULL : new_owned();
-    if (owned == NULL) return number == 0 ? POVUNDIRI_DONE : POVUNDIRI_NO_MEMORY;
+    bool may;
+    if (owned == NULL) return POVUNDIRI_NO_MEMORY;
     owned->number = number;
     povundiri_parts_name_of(owned->name, number, "seg");
-    if (!may_adopt(place, owned, shape, found)) {
+    may = is_newest ? may_adopt_newest(place, owned, shape, found) : may_adopt(folder_of(place), owned->name, shape);
+    if (!may) {
         free(owned);
         return POVUNDIRI_DONE;
     }
-    /* A fold may take it before it is opened: then none is made in its place. */
-    status = povundiri_parts_open_in(folder, owned->name, shape, POVUNDIRI_FILE_EXISTING | place->flags, 0, &owned->file, &owned->segment,
-                                     &opened);
-    if (status == POVUNDIRI_DONE && !opened.spent && !is_folded(folder, owned, opened.shape.id)) {
-        begin(place, owned);
+    if (is_taken(place, owned, shape, &opened)) {
         found->newest = owned;
         found->is_adopted = opened.outcome == POVUNDIRI_ADOPTED;
-        return status;
+        return POVUNDIRI_DONE;
     }
-    /* It stays under its name, and is read like any other. */
-    found->refused = opened.refused;
+    if (is_newest) found->refused = opened.refused;
     povundiri_folder_release(place, owned);
     return POVUNDIRI_DONE;
+}
+
+uint32_t povundiri_folder_adopt(const struct povundiri_place *place, struct povundiri_shape shape, bool is_start,
+                                struct povundiri_found *found, int *fault) {
+    struct povundiri_listing listing;
+    uint32_t status = POVUNDIRI_DONE;
+    size_t i;
+    memset(found, 0, sizeof *found);
+    *fault = povundiri_parts_list(folder_of(place), &listing);
+    if (*fault != 0) status = POVUNDIRI_SYSTEM;
+    for (i = listing.count; i > 0 && status == POVUNDIRI_DONE && found->newest == NULL; i -= 1) {
+        status = adopt_number(place, shape, listing.numbers[i - 1], is_start && i == listing.count, found);
+    }
+    free(listing.numbers);
+    return status;
 }
 
 /* A spare without a name. `is_refused` where the system has no such files. */

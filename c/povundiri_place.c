@@ -139,6 +139,19 @@ int povundiri_place_copy(const struct povundiri_place *place, struct povundiri_h
     return is_ours(place, &about) ? povundiri_parts_copy(held, place->held.descriptor) : povundiri_parts_open_folder(held, place->path);
 }
 
+int povundiri_place_share(const struct povundiri_place *place, struct povundiri_place *other) {
+    const int fault = povundiri_place_copy(place, &other->held);
+    other->path = place->path;
+    other->is_open = fault == 0;
+    other->flags = place->flags;
+    other->mode = place->mode;
+    other->device = place->device;
+    other->inode = place->inode;
+    other->keeps_locks = place->keeps_locks;
+    other->names_spares = place->names_spares;
+    return fault;
+}
+
 void povundiri_place_leave(struct povundiri_place *place) {
     if (place->is_open) povundiri_parts_close(&place->held);
     place->is_open = false;

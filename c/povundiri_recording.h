@@ -8,31 +8,39 @@
  *     povundiri_recording_add(recording, latency, elapsed_us, 1);       any thread; no lock in the usual sample
  *     status = povundiri_recording_export(recording, NULL, &text, &length, &fault);
  *
- * SEGMENTS have a fixed size and 4,294,967,295 units. A recording counts in one segment of the folder, its present one. If that is full,
- * or has too few units left, it begins the next one and counts the same sample there. Others may record into the folder as well, each into
- * segments of its own. povundiri_folder.h says what is in the folder; povundiri_recording_fold keeps it small.
+ * SEGMENTS have a fixed size and 4,294,967,295 units. A recording counts in present segments of the folder, of which each shard has one. If
+ * that is full, or has too few units left, the next one is begun and the same sample counted there. Others may record into the folder as
+ * well, each into segments of its own. povundiri_folder.h says what is in the folder; povundiri_recording_fold keeps it small.
+ *
+ * SHARDS. Threads that count in one segment wait for each other's processor caches, so those of a process are spread: over `shards` of the
+ * options, usually as many as there are processors. The first thread that counts a sample takes the first shard, the next one the next, and
+ * so on round them; a thread keeps its shard. A shard begins its first segment when its first thread counts: so a service of one thread has
+ * one segment, and all of them together at most `shards`, and one spare, of `bytes` each. Each rolls and grows by itself, and none waits for
+ * another. Texts add up all segments, so nothing that reads a folder sees a difference. Where the system lets a shard begin no segment, its
+ * threads count in the first shard until the next segment there.
  *
  * SIZE. All histograms that are in use have to fit in a segment together, and better many times. If one of them finds no room in a segment
- * less than a second after this was begun, the next one is twice as large, and so are later ones of this recording, up to 8,388,608 bytes.
+ * less than a second after this was begun, the next one is twice as large, and so are later ones of its shard, up to 8,388,608 bytes; the
+ * spare is as large as the largest, and so are segments of other shards that grow or begin later.
  * If that is too small as well, one is begun each second, and what finds no room meanwhile is missed, as ROLLING. A histogram takes 15
  * words of 8 bytes, its name and, for a scale or a custom one, a word for each value; and for its counts 4 words and 2 for each bucket. Each
  * value of a sparse histogram takes 8 words. So the usual 1 MiB has room for about 64 histograms like the one above, or 1,000 linear ones of
  * 50 buckets.
  *
  * THREADS need no handles, and all calls may come from any threads at any time. A thread gets a recorder when it first counts a sample,
- * asks for a histogram or follows a child, and gives it back when it ends. A sample takes the recording's mutex if it is the first of its
+ * asks for a histogram or follows a child, and gives it back when it ends. A sample takes the mutex of its shard if it is the first of its
  * thread in a segment, or the thread's first of a histogram there; if the thread borrows units for it, about 1,048,576 at once; if a
  * segment is begun for it; and if it is missed for another reason than VALUES. All others take none. One of the threads that took it also
- * makes the file of the segment after the present one, a spare, if there is none. Beyond 250 threads, further ones share a recorder, and
- * each of their samples takes the mutex.
+ * makes the file of the segment after the present one, a spare, if there is none. Beyond 250 threads of a shard, further ones share a
+ * recorder, and each of their samples takes the mutex.
  *
  * WHAT COULD NOT BE COUNTED is counted, by reason: povundiri_recording_missed. It is in the texts of this process as well.
  *
  * SPECS. If a release changes the buckets of a histogram, the segment that it continues is followed by the next one, and its samples count at
  * once. But texts show one spec of a name, so a histogram whose buckets change should get another name. If a name has several specs, texts
- * show the one that the oldest segment
- * had, also when that is folded; of the others the report has only how many units there are (!other), and the totals of
- * povundiri_recording_sums have all.
+ * show the one that the oldest segment had, also when that is folded; of the others the report has only how many units there are (!other),
+ * and the totals of povundiri_recording_sums have all. If a program asks for a name with several specs, the one that it asked for first has
+ * the name in each segment of the process, and samples of the others are missed, as OTHER_SPEC.
  *
  * USERS. The folder is made with mode 0700, and its files with 0600: it is for the processes of one user, its owner. Others, root too,
  * cannot open a recording in it, unless the options have POVUNDIRI_FILE_ANY_OWNER: then its owner and whoever else records there are
@@ -98,9 +106,10 @@ struct povundiri_recording;
  *             histogram of 1,000 buckets fits in one
  *   fold_at   povundiri_recording_export and _maintain fold first if the folder has this many segments or more; a thread that makes a spare
  *             folds afterwards if it has four times as many; 0: 64; UINT64_MAX: none of these folds
- *   apart     the least nanoseconds from the beginning of a segment to that of the next one; 0: 1,000,000. The first segment of a
- *             recording may be followed at once, and for a sample one that children have filled. One of the largest size that has no room
- *             is not followed before a second has passed
+ *   apart     the least nanoseconds from the beginning of a segment to that of the next one of its shard, and on average from one to the next
+ *             of the process: as many as there are shards may begin at once; 0: 1,000,000. The first segment of a shard may be followed at
+ *             once, and for a sample one that children have filled. One of the largest size that has no room is not followed before a
+ *             second has passed
  *   random    returns random numbers, for ids and names, another one each time; null: getrandom(2). Threads call it as they record, also
  *             two at once, and it makes no call of a recording
  *   context   what `random` is given
@@ -110,10 +119,13 @@ struct povundiri_recording;
  *             pass through it: 0640, which lets a group read, makes a folder of 0750
  *   most_bytes   that all files of the folder have together, where a segment is made; 0: no limit; else at least two of `bytes`. It is
  *             a limit as that of a device is (A FULL DEVICE, above). Spares without a name, of which other processes have one each, are not
- *             counted
+ *             counted. Where there is a limit, threads of a process make segments one after the other, and there are no more shards than it
+ *             has room for segments of `bytes` beside a spare
  *   most_values   that each sparse histogram has in this process; 0: 65,536; UINT64_MAX: no limit. Samples of others are missed, as VALUES,
  *             so that values from outside, such as numbers of users, do not fill the folder, nor its totals. The table of them, of 16 to 32
- *             bytes for each, is made with the histogram, and its pages take memory as they are used */
+ *             bytes for each, is made with the histogram, and its pages take memory as they are used
+ *   shards    how many present segments this process may have (SHARDS, above), 256 at most; 0: as many as there are processors on which it
+ *             may run, as it opens the recording, but no more than 16; 1: all threads count in one segment */
 struct povundiri_recording_options {
     size_t size;
     uint64_t bytes;
@@ -125,12 +137,13 @@ struct povundiri_recording_options {
     mode_t mode;
     uint64_t most_bytes;
     uint64_t most_values;
+    uint64_t shards;
 };
 
-#define POVUNDIRI_RECORDING_OPTIONS {sizeof(struct povundiri_recording_options), 0, 0, 0, NULL, NULL, 0, 0, 0, 0}
+#define POVUNDIRI_RECORDING_OPTIONS {sizeof(struct povundiri_recording_options), 0, 0, 0, NULL, NULL, 0, 0, 0, 0, 0}
 
 /* How a recording began. More may be said at its end by later versions.
- *   number     that of its segment; 0: there is none yet, since none could be made. A sample tries again
+ *   number     that of its first segment; 0: there is none yet, since none could be made. A sample tries again
  *   adopted    whether that segment was in the folder before, and is continued
  *   refused    what is wrong with the image of the folder's newest segment, so that it is not continued (povundiri_adopt, povundiri_report);
  *              else POVUNDIRI_DONE, also if that segment is in use, full, or of another size or user
@@ -145,14 +158,13 @@ struct povundiri_began {
 };
 
 /* Why units were not counted. A reason has its number for good; later versions may have more.
- *   TOO_LARGE   the histogram does not fit in a segment of the present size, not even alone
+ *   TOO_LARGE   the histogram does not fit in a segment of the largest size that a shard has, not even alone
  *   OTHER_SPEC  the present segment has a histogram of that name with another spec: this program asks for the name with both
  *   NO_SPACE    the present segment has no room or too few units, or there is none, and the system refused the next one, or a larger one, now
  *               or up to a second before: the device is full, a limit is reached, there is no memory, the folder is gone or may not be
  *               written. Where a larger one was refused, one of the size of the present one follows a second later
- *   ROLLING     the present segment has no room or too few units, and was begun less than `apart` before; or it has no room, is of the
- *               largest
- *               size, and was begun less than a second before
+ *   ROLLING     the present segment has no room or too few units, and was begun less than `apart` before, or too many others of the process
+ *               were; or it has no room, is of the largest size, and was begun less than a second before
  *   FORKED      this is a child of fork, and the recording its parent's
  *   ENDED       the recording has ended
  *   NO_MEMORY   there was no memory for what the first samples of a thread or of a histogram take
@@ -182,10 +194,10 @@ const char *povundiri_missed_text(uint32_t reason);
 /* Begins to record into a folder, which is made if it is not there, but not what it is in. It has to be empty, or a folder of recordings.
  * `options` may be null. A relative path is resolved now, once.
  *
- * The newest segment of the folder is continued, if nobody records into it, it has the size that the options ask for, it is this user's, it
- * has units and was never full, and povundiri_adopt would take its image. Else the next one is begun; the newest stays, and is in the sum if
- * its header has no fault. So a restart continues where the process before stopped, unless segments had grown (SIZE, above), and a process
- * that starts while it runs has its own segment.
+ * The segment of the greatest number is continued of those that nobody records into, that have the size that the options ask for, are this
+ * user's, have units, were never full, and that povundiri_adopt would take. Else the next one is begun. Those that are not continued stay,
+ * and are in the sum if their headers have no fault. Each shard takes its first segment in this way. So a restart continues where the process
+ * before stopped, with as many segments, unless segments had grown (SIZE, above), and a process that starts while it runs has its own.
  *
  * POVUNDIRI_DONE: *recording is not null. This is returned also if no segment can be made, as on a full disk: then samples are
  * missed, as NO_SPACE, it is tried again, and povundiri_recording_began says why. On any other status *recording is unchanged.
@@ -204,7 +216,8 @@ uint32_t povundiri_recording_open(const char *folder, const struct povundiri_rec
  * Keep: process. */
 const struct povundiri_began *povundiri_recording_began(const struct povundiri_recording *recording);
 
-/* Ends it: from now on samples are missed, as ENDED. Texts, sums and folds still work. With a null, or a second time, nothing happens.
+/* Ends it, in all shards: from now on samples are missed, as ENDED. Texts, sums and folds still work. With a null, or a second time, nothing
+ * happens.
  * This thread gives back what it has of the recording. A segment that others recorded into is final, so that a fold takes it, when each of
  * them has ended, or has called povundiri_recording_add, _follow or _leave once more.
  * Keep: process. */
@@ -217,14 +230,14 @@ uint32_t povundiri_recording_add_usual(struct povundiri_recording *recording, si
 bool povundiri_recording_add_other(struct povundiri_recording *recording, size_t metric, int32_t value, uint32_t count);
 
 /* A metric: the number of a histogram for all threads, by its name and its spec (povundiri_hist): the same number for the same, until the
- * process ends. The histogram is made in the present segment, if it is not there and has room. Ask once, and not for each sample.
+ * process ends. The histogram is made in the present segment of this thread's shard, or of the first one if the thread has counted nothing
+ * yet, if it is not there and has room; and in those of others as soon as a thread counts there. Ask once, and not for each sample.
  *
  * POVUNDIRI_DONE; or one of these, and *metric is a number all the same:
- *   POVUNDIRI_REFUSED_OTHER_SPEC   the present segment has it with another spec, and was begun by this recording: samples are missed until
- *                                  the
- *                                  next one is begun, which may be long (SPECS, above)
- *   POVUNDIRI_REFUSED_TOO_LARGE    no segment of the present size has room for it: samples are missed, all of them or from the second bucket
- *                                  on, unless segments grow (SIZE, above)
+ *   POVUNDIRI_REFUSED_OTHER_SPEC   the present segment has it with another spec, and was begun by this recording: samples are missed in each
+ *                                  segment that has it so (SPECS, above)
+ *   POVUNDIRI_REFUSED_TOO_LARGE    no segment of the largest size that a shard has has room for it: samples are missed, all of them or from
+ *                                  the second bucket on, unless segments grow (SIZE, above)
  * Or there is none:
  *   POVUNDIRI_NULL, POVUNDIRI_NO_MEMORY, POVUNDIRI_OPEN_NO_MEMORY, POVUNDIRI_REFUSED_NO_MEMORY
  *   POVUNDIRI_BAD_KIND, POVUNDIRI_REFUSED_BAD_NAME, POVUNDIRI_SPEC_..   as povundiri_hist says
@@ -323,9 +336,9 @@ uint32_t povundiri_recording_sums(struct povundiri_recording *recording, struct 
  *   show     `missed, REASON: UNITS` for each reason with units
  *
  * A text is of the whole folder, so let one of the processes that record there be scraped. The flag `full` in it says that some segment was
- * full, which is how each one ends. A text takes the mutex for a moment, and reads each segment three times. An export folds first if
- * the folder has `fold_at` segments or more, and then waits for the device; whether that fold is done makes no difference to the text or
- * the status.
+ * full, which is how each one ends. A text takes the mutex of each shard for a moment, and reads each segment three times. An export folds
+ * first if the folder has `fold_at` segments or more, and then waits for the device; whether that fold is done makes no difference to the
+ * text or the status.
  *
  * POVUNDIRI_DONE: *text is for free(), and has *length bytes, with a zero after them. Else it is null, and *length 0.
  *   those of povundiri_folder_sums, of which POVUNDIRI_SYSTEM sets *fault; for an export also POVUNDIRI_BAD_PREFIX

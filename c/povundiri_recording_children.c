@@ -59,45 +59,46 @@ static bool may_have(const struct came *came, const struct povundiri_metric *met
 
 /* Asks for the metrics whose names the image may have, so that they have these names in the present segment, with their own specs. A child
  * may have one already, where the next segment was refused; and a metric may be too large. */
-static uint32_t ask_first(struct povundiri_recording *recording, const struct came *came, struct local **local) {
+static uint32_t ask_first(const struct came *came, struct local **local) {
+    const struct povundiri_metrics *const metrics = &(*local)->shard->recording->metrics;
+    const size_t count = povundiri_metrics_count(metrics);
     size_t i;
-    for (i = 0; i < recording->metrics.count; i += 1) {
-        const struct povundiri_metric *const metric = recording->metrics.all[i];
+    for (i = 0; i < count; i += 1) {
+        const struct povundiri_metric *const metric = povundiri_metrics_at(metrics, i);
         uint32_t status = POVUNDIRI_DONE;
-        if (may_have(came, metric)) status = povundiri_counting_find(recording, local, i);
-        if (status == POVUNDIRI_DONE || status == POVUNDIRI_REFUSED_OTHER_SPEC || metric->is_too_large) continue;
+        if (may_have(came, metric)) status = povundiri_counting_find(local, i);
+        if (status == POVUNDIRI_DONE || status == POVUNDIRI_REFUSED_OTHER_SPEC || is_too_large(metric)) continue;
         if (status != POVUNDIRI_REFUSED_TOO_LARGE) return status;
     }
     return POVUNDIRI_DONE;
 }
 
 /* Calls the follower. */
-static void call(struct povundiri_recording *recording, struct local *local, const struct came *came, struct answer *answer) {
-    const bool is_shared = local == recording->shared;
+static void call(struct shard *shard, struct local *local, const struct came *came, struct answer *answer) {
+    const bool is_shared = local == shard->shared;
     memset(answer, 0, sizeof *answer);
-    recording->following += 1;
-    if (!is_shared) pthread_mutex_unlock(&recording->mutex);
+    shard->following += 1;
+    if (!is_shared) pthread_mutex_unlock(&shard->mutex);
     answer->status = povundiri_follower_merge(came->follower, &local->recorder, came->words, came->length, came->most, &answer->report);
-    if (!is_shared) pthread_mutex_lock(&recording->mutex);
-    recording->following -= 1;
+    if (!is_shared) pthread_mutex_lock(&shard->mutex);
+    shard->following -= 1;
     answer->has_added = answer->status == POVUNDIRI_DONE || answer->report.name[0] != 0;
 }
 
 /* Whether the call would take more units than the recorder has, and may be made again, since it was lent them. */
-static bool is_lent(struct povundiri_recording *recording, struct local *local, const struct answer *answer) {
-    return answer->status == POVUNDIRI_REFUSED_NO_UNITS && !answer->has_added && local->turn == recording->turn &&
-           povundiri_counting_lend(recording, local, (uint32_t)answer->report.cost);
+static bool is_lent(struct local *local, const struct answer *answer) {
+    return answer->status == POVUNDIRI_REFUSED_NO_UNITS && !answer->has_added && is_present(local) &&
+           povundiri_counting_lend(local, (uint32_t)answer->report.cost);
 }
 
 /* Adds what came to the present segment, with a recorder that has as many units as were needed, if there are as many. */
-static void add_here(struct povundiri_recording *recording, const struct came *came, uint32_t needed, struct local **local,
-                     struct answer *answer) {
+static void add_here(struct shard *shard, const struct came *came, uint32_t needed, struct local **local, struct answer *answer) {
     memset(answer, 0, sizeof *answer);
-    answer->status = povundiri_counting_join(recording, needed, local);
-    if (answer->status == POVUNDIRI_DONE) answer->status = ask_first(recording, came, local);
+    answer->status = povundiri_counting_join(shard, needed, local);
+    if (answer->status == POVUNDIRI_DONE) answer->status = ask_first(came, local);
     if (answer->status != POVUNDIRI_DONE) return;
-    call(recording, *local, came, answer);
-    if (is_lent(recording, *local, answer)) call(recording, *local, came, answer);
+    call(shard, *local, came, answer);
+    if (is_lent(*local, answer)) call(shard, *local, came, answer);
 }
 
 /* Whether a segment was full once. */
@@ -126,58 +127,59 @@ static void put_together(const struct answer *one, struct answer *all) {
 }
 
 /* Whether what came may be added now: there is a segment, and children have not filled one a moment before. */
-static bool may_add(struct povundiri_recording *recording) {
-    if (recording->state != RECORDS || povundiri_segments_now() < recording->follow_at) return false;
-    return recording->current != NULL || povundiri_segments_begin_next(recording) == 0;
+static bool may_add(struct shard *shard) {
+    if (shard->state != RECORDS || povundiri_segments_now() < shard->follow_at) return false;
+    return shard->current != NULL || povundiri_segments_begin_next(shard) == 0;
 }
 
 /* Whether there is another segment for what is left: one that another thread has begun meanwhile, or one that is begun now. */
-static bool goes_on(struct povundiri_recording *recording, const struct local *local, const struct answer *answer) {
+static bool goes_on(struct shard *shard, const struct local *local, const struct answer *answer) {
     const uint32_t lack = lack_of(local, answer);
-    if (local->turn == recording->turn && (answer->report.added > 0 || lack != POVUNDIRI_DONE)) recording->has_childs = true;
-    if (lack == POVUNDIRI_DONE || recording->state != RECORDS) return false;
-    return local->turn != recording->turn || povundiri_segments_roll_for_child(recording, lack) == BEGUN;
+    if (is_present(local) && (answer->report.added > 0 || lack != POVUNDIRI_DONE)) shard->has_childs = true;
+    if (lack == POVUNDIRI_DONE || shard->state != RECORDS) return false;
+    return !is_present(local) || povundiri_segments_roll_for_child(shard, lack) == BEGUN;
 }
 
 /* Adds what came to the present segment, and to those that are begun for it. */
-static void add_all(struct povundiri_recording *recording, const struct came *came, struct answer *all) {
+static void add_all(struct shard *shard, const struct came *came, struct answer *all) {
     struct answer one;
     struct local *local = NULL;
     uint32_t needed = 0;
     int tries;
-    for (tries = 0; tries < MOST_TRIES && may_add(recording); tries += 1) {
-        add_here(recording, came, needed, &local, &one);
+    for (tries = 0; tries < MOST_TRIES && may_add(shard); tries += 1) {
+        add_here(shard, came, needed, &local, &one);
         put_together(&one, all);
         needed = (uint32_t)one.report.cost;
-        if (!goes_on(recording, local, &one)) return;
+        if (!goes_on(shard, local, &one)) return;
     }
-    if (tries == 0 && !all->has_added && recording->state == RECORDS) all->status = POVUNDIRI_REFUSED_FULL;
+    if (tries == 0 && !all->has_added && shard->state == RECORDS) all->status = POVUNDIRI_REFUSED_FULL;
 }
 
 /* The same; where the device has no room for a segment, the folder is folded first, and what is left is added then. */
-static void add_with_room(struct povundiri_recording *recording, const struct came *came, struct answer *all) {
-    add_all(recording, came, all);
-    if (!is_spent(all->status) || !(recording->lacks_room || recording->is_making_room)) return;
-    if (povundiri_recording_make_room(recording)) add_all(recording, came, all);
-    recording->lacks_room = false;
+static void add_with_room(struct shard *shard, const struct came *came, struct answer *all) {
+    add_all(shard, came, all);
+    if (!is_spent(all->status) || !povundiri_recording_lacks_room(shard->recording)) return;
+    if (povundiri_recording_make_room(shard)) add_all(shard, came, all);
+    povundiri_recording_forget_lack(shard->recording);
 }
 
 /* Adds what came, as far as it goes. */
 static uint32_t add(struct povundiri_recording *recording, struct came *came, struct povundiri_merge_report *report) {
     struct answer all;
+    struct shard *shard;
     bool wants_spare;
     int state;
     memset(&all, 0, sizeof all);
     all.status = POVUNDIRI_EMPTY;
     note_names(came);
     pthread_setcancelstate(PTHREAD_CANCEL_DISABLE, &state);
-    pthread_mutex_lock(&recording->mutex);
-    povundiri_segments_look(recording, false);
-    add_with_room(recording, came, &all);
-    if (recording->state == HAS_ENDED) povundiri_counting_leave(recording);
-    wants_spare = recording->state == RECORDS && recording->spare == NULL;
-    pthread_mutex_unlock(&recording->mutex);
-    if (wants_spare) povundiri_segments_prepare(recording);
+    shard = povundiri_counting_enter(recording, state_of(recording) == RECORDS);
+    povundiri_segments_look(shard, false);
+    add_with_room(shard, came, &all);
+    if (shard->state == HAS_ENDED) povundiri_counting_leave(shard);
+    wants_spare = shard->state == RECORDS && povundiri_segments_want_spare(shard);
+    pthread_mutex_unlock(&shard->mutex);
+    if (wants_spare) povundiri_segments_prepare(shard);
     pthread_setcancelstate(state, NULL);
     povundiri_parts_give(&all.report, report);
     return all.status;
@@ -220,16 +222,12 @@ uint32_t povundiri_recording_give_up(struct povundiri_recording *recording, stru
                                      size_t length, struct povundiri_merge_report *report) {
     struct povundiri_merge_report made;
     uint32_t status = POVUNDIRI_EMPTY;
-    bool is_forked;
     int state;
     if (recording == NULL || follower == NULL || !povundiri_is_array(words, length)) return POVUNDIRI_NULL;
     if (!povundiri_parts_is_report(report)) return POVUNDIRI_SHORT;
     memset(&made, 0, sizeof made);
     pthread_setcancelstate(PTHREAD_CANCEL_DISABLE, &state);
-    pthread_mutex_lock(&recording->mutex);
-    is_forked = recording->state == IS_FORKED;
-    pthread_mutex_unlock(&recording->mutex);
-    if (!is_forked) status = povundiri_follower_skip(follower, words, length, &made.left);
+    if (state_of(recording) != IS_FORKED) status = povundiri_follower_skip(follower, words, length, &made.left);
     if (status == POVUNDIRI_DONE) miss_child(recording, made.left);
     pthread_setcancelstate(state, NULL);
     povundiri_parts_give(&made, report);

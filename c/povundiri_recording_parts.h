@@ -9,7 +9,7 @@
 /* How many reasons there are. */
 enum { MISSED_REASONS = POVUNDIRI_MISSED_VALUES + 1 };
 
-/* Its folder, by a descriptor of the caller's own, after a look at whether the present segment is there. 0, or the system's fault. */
+/* Its folder, by a descriptor of the caller's own, after a look at whether the present segments are there. 0, or the system's fault. */
 int povundiri_recording_folder(struct povundiri_recording *recording, struct povundiri_held *held);
 
 /* Folds, if the folder has `fold_at` segments or more: as povundiri_recording_fold, and POVUNDIRI_DONE if it has not. */
@@ -33,15 +33,30 @@ struct povundiri_metric {
     uint32_t *values;
     size_t count;
     struct povundiri_distinct *distinct; /* of a sparse one, if its values are bounded; else null */
-    bool is_too_large; /* a segment of the present size without any other has no room for it: then none is begun for it */
+    size_t earlier;                      /* the number of the one before it that has this name; else its own */
+    bool is_too_large; /* a segment of the largest size that any shard has, without another one, has no room for it: none is begun for it */
 };
 
-/* All of them, by number. It begins as zeros but for `most_values`, and is for one thread at a time. */
+/* Twice as many in each part as in the one before. */
+enum { METRIC_PARTS = 40, FIRST_METRICS = 64 };
+
+/* All of them, by number. It begins as zeros but for `most_values`. One thread at a time adds; any reads meanwhile: none moves or ends. */
 struct povundiri_metrics {
-    struct povundiri_metric **all;
+    struct povundiri_metric **parts[METRIC_PARTS];
     size_t count;
     uint64_t most_values; /* of each sparse one; with 2^32 or more there is no bound */
 };
+
+/* How many there are. */
+static inline size_t povundiri_metrics_count(const struct povundiri_metrics *metrics) {
+    return __atomic_load_n(&metrics->count, __ATOMIC_ACQUIRE);
+}
+
+/* The one of this number: below the count, or the one that is being added. */
+struct povundiri_metric *povundiri_metrics_at(const struct povundiri_metrics *metrics, size_t metric);
+
+/* Whether it is too large, as far as is known. */
+static inline bool is_too_large(const struct povundiri_metric *metric) { return __atomic_load_n(&metric->is_too_large, __ATOMIC_RELAXED); }
 
 /* Whether there is one of this name and spec; then *metric is its number. Of a spec without values `count` is 0. */
 bool povundiri_metrics_find(const struct povundiri_metrics *metrics, const char *name, size_t length, struct povundiri_spec spec,
@@ -50,15 +65,15 @@ bool povundiri_metrics_find(const struct povundiri_metrics *metrics, const char 
 /* Whether both have the same name. */
 bool povundiri_metrics_have_one_name(const struct povundiri_metric *one, const struct povundiri_metric *other);
 
-/* Puts one after the others, and says whether it is too large for segments of this shape. If no histogram may have this name and spec, or
- * there is no memory, that is returned, and nothing has changed. */
+/* Puts one after the others, whose number is their count, and says whether it is too large for segments of this shape. Nobody else knows it
+ * until povundiri_metrics_keep, and another one takes its place if that is not called. If no histogram may have this name and spec, or there
+ * is no memory, that is returned, and nothing has changed. */
 uint32_t povundiri_metrics_add(struct povundiri_metrics *metrics, struct povundiri_shape shape, const char *name, size_t length,
                                struct povundiri_spec spec, const uint32_t *values, size_t count);
+void povundiri_metrics_keep(struct povundiri_metrics *metrics);
+void povundiri_metrics_forget(struct povundiri_metrics *metrics);
 
-/* Takes back the last one. */
-void povundiri_metrics_forget_last(struct povundiri_metrics *metrics);
-
-/* Says again, of those that were too large, whether they are so for segments of this shape. */
+/* Says again, of those that were too large, whether they are so for segments of this larger shape. Several threads may call it. */
 void povundiri_metrics_judge_again(struct povundiri_metrics *metrics, struct povundiri_shape shape);
 
 #endif

@@ -132,7 +132,7 @@ void growth_of_segments() {
     constexpr int kThreads = 3, kMetrics = 20, kSamples = 5000;
     const std::string path = folder("growth");
     Clock clock;
-    RecordingOptions options;
+    RecordingOptions options = one_shard();
     options.bytes = 16'384;
     Recording recording;
     HOLDS(opens(path, recording, options));

@@ -25,9 +25,16 @@ inline std::string home;
 
 inline std::string folder(const char* name) { return home + "/" + name; }
 
+// One present segment, so that it is plain which follows which. What is usual is in recorded_shards.cpp.
+inline RecordingOptions one_shard() {
+    RecordingOptions options;
+    options.shards = 1;
+    return options;
+}
+
 // Options for segments that are so small that a few histograms fill one, and that may follow one another at once.
 inline RecordingOptions small() {
-    RecordingOptions options;
+    RecordingOptions options = one_shard();
     options.bytes = 16'384;
     options.apart = 1;
     return options;
@@ -45,7 +52,7 @@ inline long bytes_of(const std::string& path) {
     return lstat(path.c_str(), &about) == 0 ? static_cast<long>(about.st_size) : -1;
 }
 
-inline bool opens(const std::string& path, Recording& recording, const RecordingOptions& options = RecordingOptions()) {
+inline bool opens(const std::string& path, Recording& recording, const RecordingOptions& options = one_shard()) {
     return !Recording::try_open(path.c_str(), recording, options);
 }
 

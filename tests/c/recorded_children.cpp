@@ -148,7 +148,7 @@ void units_and_room() {
 // By default a segment is not followed within a millisecond: what found no room is left, and added by later calls.
 void left() {
     Clock clock;
-    RecordingOptions options;
+    RecordingOptions options = one_shard();
     options.bytes = 16'384;
     Recording recording;
     HOLDS(opens(folder("left"), recording, options));

@@ -221,7 +221,7 @@ void threads() {
     constexpr int kThreads = 8, kNames = 60, kRounds = 400;
     constexpr std::size_t kMost = 40;
     Recording recording;
-    RecordingOptions options;
+    RecordingOptions options = one_shard();
     options.bytes = 4 << 20;
     HOLDS(!Recording::try_open(folder("threads"), recording, options));
     const auto family = family_of(recording, kMost);

@@ -202,9 +202,9 @@ std::size_t left_by_kill(const std::string& path) {
 void swept() {
     const std::vector<std::pair<Unnamed, const char*>> ways = {
         {Unnamed::Named, "unnamed"}, {Unnamed::NotMade, "not_made"}, {Unnamed::NotNamed, "not_named"}};
-    RecordingOptions options;
-    options.apart = 1;
     for (const auto& [way, name] : ways) {
+        RecordingOptions options = one_shard();
+        options.apart = 1;
         const std::string path = folder(name);
         Recording recording;
         HOLDS(mkdir(path.c_str(), 0700) == 0);
@@ -218,10 +218,13 @@ void swept() {
         recording.end();
         HOLDS(spares_in(path).empty());
         const std::size_t left = left_by_kill(path);
-        HOLDS(left == (way == Unnamed::Named ? 0 : 1) && opens(path, recording) && spares_in(path).size() == 2 * left);
+        // Each of these starts begins a segment: there is none of its size.
+        options.bytes = 32'768;
+        HOLDS(left == (way == Unnamed::Named ? 0 : 1) && opens(path, recording, options) && spares_in(path).size() == 2 * left);
         for (const std::string& spare : spares_in(path)) HOLDS(ages(spare, 61));
         recording.end();
-        HOLDS(opens(path, recording, small()) && spares_in(path).size() == left);
+        options.bytes = 65'536;
+        HOLDS(opens(path, recording, options) && spares_in(path).size() == left);
         HOLDS(units_in(recording.report(), "b") == 12'000'000'003);
         unnamed = Unnamed::Named;
     }

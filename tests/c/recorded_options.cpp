@@ -18,7 +18,7 @@ void named() {
     const std::filesystem::path path = text;
     char letters[4096];
     HOLDS(std::snprintf(letters, sizeof letters, "%s", text.c_str()) > 0);
-    RecordingOptions options;
+    RecordingOptions options = one_shard();
     options.bytes = 16'384;
     for (int turn = 0; turn < 2; ++turn) {
         const Recording ways[] = {Recording(text),          Recording(path),          Recording(letters),          Recording(text.c_str()),
@@ -41,7 +41,7 @@ void options() {
     const auto* const file = new (other) povundiri::FileOptions;
     HOLDS(usual->size == sizeof *usual && usual->bytes == 0 && usual->fold_at == 0 && usual->apart == 0);
     HOLDS(usual->random == nullptr && usual->context == nullptr && usual->flags == 0 && usual->mode == 0);
-    HOLDS(usual->most_bytes == 0 && usual->most_values == 0);
+    HOLDS(usual->most_bytes == 0 && usual->most_values == 0 && usual->shards == 0);
     HOLDS(file->size == sizeof *file && file->flags == 0 && file->mode == 0);
     struct {
         povundiri_recording_options known = POVUNDIRI_RECORDING_OPTIONS;
@@ -63,6 +63,13 @@ void options() {
     HOLDS(!opened("refused-options"));
     larger.known.size = sizeof larger;
     HOLDS(opened("options"));
+    for (const std::uint64_t shards : {1, 256}) {
+        larger.known.shards = shards;
+        HOLDS(opened("options"));
+    }
+    larger.known.shards = 257;
+    HOLDS(!opened("refused-options"));
+    larger.known.shards = 0;
     larger.later = 1;
     HOLDS(!opened("refused-options") && bytes_of(folder("refused-options")) == -1);
 }
@@ -92,7 +99,7 @@ void folders() {
     HOLDS(Recording::try_open(other.c_str(), recording) == Status::FolderInUse);
     HOLDS(Recording::try_open(file.c_str(), recording) == std::errc::not_a_directory);
     HOLDS(Recording::try_open(folder("none/below").c_str(), recording) == std::errc::no_such_file_or_directory);
-    RecordingOptions options;
+    RecordingOptions options = one_shard();
     options.bytes = 8;
     HOLDS(Recording::try_open(folder("shape").c_str(), recording, options) == Status::OpenBadShape);
     HOLDS(!recording);

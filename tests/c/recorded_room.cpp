@@ -202,7 +202,8 @@ void limit_at_start() {
     }
     std::FILE* const file = std::fopen((path + "/0000000001.damaged").c_str(), "w");
     HOLDS(file != nullptr && std::fclose(file) == 0 && truncate((path + "/0000000001.damaged").c_str(), 5 * kSmall) == 0);
-    options.bytes = 16'384;
+    // There is no segment of this size that could be continued.
+    options.bytes = 12'288;
     HOLDS(opens(path, recording, options) && recording.began().fault == EDQUOT && recording.began().number == 0);
     HOLDS(!metric_of(recording, "b").add(1, 5) && recording.missed(Missed::NoSpace) == 5 && units_in(recording.report(), "b") == 10LL * kMost);
 }

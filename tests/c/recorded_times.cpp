@@ -195,7 +195,7 @@ void moved_timers() {
 
 void counters() {
     Recording recording;
-    RecordingOptions options;
+    RecordingOptions options = one_shard();
     options.apart = 1;
     HOLDS(opens(folder("counters"), recording, options));
     const Counter requests = recording.counter("requests_total"), labeled = recording.counter("requests_total{method=GET;route=a}");

@@ -196,7 +196,7 @@ void modes() {
     umask(was);
     const auto is_refused = [](mode_t mode, unsigned flags) {
         Recording recording;
-        RecordingOptions options;
+        RecordingOptions options = one_shard();
         options.mode = mode;
         options.flags = flags;
         return Recording::try_open(folder("mode_none"), recording, options) == Status::BadOptions && bytes_of(folder("mode_none")) == -1;

@@ -91,7 +91,7 @@ void usual() {
     constexpr int kUsual = 65'536, kValues = 70'000;
     for (const std::uint64_t most : {std::uint64_t{0}, UINT64_MAX}) {
         Recording recording;
-        RecordingOptions options;
+        RecordingOptions options = one_shard();
         options.apart = 1;
         options.most_values = most;
         HOLDS(opens(folder(most == 0 ? "usual" : "all"), recording, options));

@@ -1,6 +1,6 @@
 // Threads that come and go record into a folder until they are killed, at a random moment, or for a while.
 //
-//     recording FOLDER TALLY SEED BYTES APART SECONDS [MODE]
+//     recording FOLDER TALLY SEED BYTES APART SHARDS SECONDS [MODE]
 //
 // TALLY is a file of cells that is shared with the process that kills the program: for each thread and metric, the units that it has begun
 // to count, and those of calls that have ended (as in tally.hpp). SECONDS is how long it records; 0: until it is killed. What was missed is
@@ -47,7 +47,7 @@ using Tally = Cell[kThreads][kMetrics];
 
 struct Words {
     std::string folder, tally, mode;
-    std::uint64_t seed, bytes, apart, seconds;
+    std::uint64_t seed, bytes, apart, shards, seconds;
 };
 
 Tally& tally_of(const std::string& path) {
@@ -162,6 +162,7 @@ void run(const Words& words) {
     povundiri::RecordingOptions options;
     options.bytes = words.bytes;
     options.apart = words.apart;
+    options.shards = words.shards;
     povundiri::Recording recording;
     const std::error_code fault = povundiri::Recording::try_open(words.folder.c_str(), recording, options);
     if (fault) stop("open: " + fault.message());
@@ -200,6 +201,7 @@ void run(const Words& words) {
 }  // namespace
 
 int main(int count, char** words) {
-    if (count < 7) stop("recording FOLDER TALLY SEED BYTES APART SECONDS [MODE]");
-    run({words[1], words[2], count > 7 ? words[7] : "-", number(words[3]), number(words[4]), number(words[5]), number(words[6])});
+    if (count < 8) stop("recording FOLDER TALLY SEED BYTES APART SHARDS SECONDS [MODE]");
+    run({words[1], words[2], count > 8 ? words[8] : "-", number(words[3]), number(words[4]), number(words[5]), number(words[6]),
+         number(words[7])});
 }

@@ -32,6 +32,8 @@ NAMES = (b"scale", b"boolean", b"linear", b"sparse", b"custom")
 # Bytes of a segment, and the least nanoseconds between two.
 SIZES = ((16_384, 1_000_000), (32_768, 1), (65_536, 1_000_000))
 SMALL = (8_192, 1_000_000)
+# How many present segments a program may have: each run has one of these.
+SHARDS = (1, 2, 4, 16)
 # How a program is linked whose calls to the system come to stopped.c first.
 STOPPED = (
     "openat", "close", "flock", "fsync", "ftruncate", "linkat", "mmap", "posix_fallocate", "pread", "renameat",
@@ -49,10 +51,11 @@ CHECKED = {
     "recorded": ("clock_gettime", "posix_fallocate"), "recorded_folders": ("openat", "flock", "linkat"),
     "recorded_removed": (), "recorded_children": OF_CHILDREN, "recorded_refusals": OF_CHILDREN, "recorded_users": (),
     "recorded_room": ("posix_fallocate",), "recorded_values": ("posix_fallocate",), "silence": (),
+    "recorded_shards": ("posix_fallocate", "clock_gettime"),
 }
 THREADS = "-fsanitize=thread"
 # The programs of which the groups with threads are run under the thread sanitizer.
-THREADED = ("recorded", "recorded_refusals", "recorded_families")
+THREADED = ("recorded", "recorded_refusals", "recorded_families", "recorded_shards")
 # The reasons for what is missed, in the order of the library; what a run may miss that nothing disturbs.
 REASONS = (
     "too_large", "other_spec", "no_space", "rolling", "forked", "ended", "no_memory", "removed", "child", "values",
@@ -94,12 +97,13 @@ class Folder:
         self.tallies: list[pathlib.Path] = []
         self.met: collections.Counter[str] = collections.Counter()
 
-    def words(self, number: int, size: Sequence[int], seconds: int, mode: str) -> list[str]:
+    def words(self, number: int, size: Sequence[int], seconds: int, mode: str, shards: int | None = None) -> list[str]:
         tally = self.home / f"tally_{number}"
         if tally not in self.tallies:
             self.tallies.append(tally)
-        seed = self.chance.randrange(2**31)
-        return [str(word) for word in (self.recording, self.folder, tally, seed, *size, seconds, mode)]
+        seed, drawn = self.chance.randrange(2**31), self.chance.choice(SHARDS)
+        words = (self.recording, self.folder, tally, seed, *size, shards or drawn, seconds, mode)
+        return [str(word) for word in words]
 
     @contextlib.contextmanager
     def running(self, number: int, size: Sequence[int], mode: str = "-") -> Iterator[subprocess.Popen[bytes]]:
@@ -219,9 +223,9 @@ def overlapping(runs: Folder, restarts: int) -> str | None:
     return runs.wrong()
 
 
-def to_its_end(runs: Folder, mode: str) -> str | None:
+def to_its_end(runs: Folder, mode: str, shards: int) -> str | None:
     """A run that is not killed: what it counted is there to the unit, and nothing was missed but what is said."""
-    program, *words = runs.words(0, SMALL if "o" in mode else SIZES[0], 1, mode)
+    program, *words = runs.words(0, SMALL if "o" in mode else SIZES[0], 1, mode, shards)
     came = answer(program, words)
     if came.status != 0 or came.error:
         return f"{came}"
@@ -400,8 +404,10 @@ def cases(program: None, options: argparse.Namespace) -> Iterator[Case]:
             yield f"killed, mode {mode}", killed(runs(f"killed_{mode}"), kills, mode)
         yield "two at once", beside(runs("beside"), 10)
         yield "restarts that overlap", overlapping(runs("overlapping"), 20)
-        for mode in ("-", "r", "f", "rfi", "o", "g", "rfg"):
-            yield f"to its end, mode {mode}", to_its_end(runs(f"end_{mode}"), mode)
+        for shards in SHARDS:
+            for mode in ("-", "r", "f", "rfi", "o", "g", "rfg"):
+                name = f"to its end, mode {mode}, shards {shards}"
+                yield name, to_its_end(runs(f"end_{mode}_{shards}"), mode, shards)
         yield "folds that are killed", folds_killed(runs("folds"))
         for mode in ("-", "g"):
             yield f"killed as it begins a segment, mode {mode}", beginnings_killed(runs(f"beginnings_{mode}"), mode)

@@ -195,6 +195,10 @@ uint32_t povundiri_folder_adopt(const struct povundiri_place *place, struct povu
 uint32_t povundiri_folder_spare(struct povundiri_place *place, struct povundiri_shape shape, uint64_t random,
                                 struct povundiri_owned **spare, int *fault);
 
+/* Whether the device has as much left as a fold may need for new totals: what those that are there have, and what a segment of this shape has.
+ * Looked at after a spare was made, so that two threads do not both take the last of it. So too where the system does not say. */
+bool povundiri_folder_leaves_room(const struct povundiri_place *place, struct povundiri_shape shape);
+
 /* Gives a spare the next number. 0, or the system's fault; then it is a spare still. EAGAIN: another spare may get it. */
 int povundiri_folder_commit(struct povundiri_place *place, struct povundiri_owned *spare);
 

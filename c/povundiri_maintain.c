@@ -87,7 +87,8 @@ static bool begins_to_fold(struct povundiri_recording *recording) {
     return true;
 }
 
-/* One thread folds, and the others wait for it. It has made room if it has removed a segment; so may have another process, which folds. */
+/* One thread folds, and the others wait for it. It has made room if it has removed a segment; so may have another process, which folds. Where
+ * nothing could be folded, there is still the room that was left for a fold. */
 static bool make_room(struct povundiri_recording *recording) {
     uint64_t folded = 0;
     uint32_t status;
@@ -100,6 +101,10 @@ static bool make_room(struct povundiri_recording *recording) {
     status = fold(recording, 0, &folded, &fault);
     is_made = folded > 0 || status == POVUNDIRI_BUSY;
     pthread_mutex_lock(&recording->mutex);
+    if (!is_made && !recording->spends_reserve) {
+        __atomic_store_n(&recording->spends_reserve, true, __ATOMIC_RELAXED);
+        is_made = true;
+    }
     recording->is_making_room = false;
     if (is_made) recording->refusals = recording->again_at = 0;
     pthread_cond_broadcast(&recording->room);

@@ -6,6 +6,8 @@
 #include <stdio.h>
 #include <stdlib.h>
 #include <string.h>
+#include <sys/stat.h>
+#include <sys/statvfs.h>
 #include <unistd.h>
 
 #include "povundiri_folder_parts.h"
@@ -217,6 +219,15 @@ static uint32_t open_named(const struct povundiri_place *place, struct povundiri
     /* It may have been made, and is empty. */
     if (status != POVUNDIRI_DONE) unlinkat(folder_of(place), owned->name, 0);
     return status;
+}
+
+bool povundiri_folder_leaves_room(const struct povundiri_place *place, struct povundiri_shape shape) {
+    uint64_t needed = povundiri_file_bytes(shape.size, (size_t)shape.cursors);
+    struct statvfs device;
+    struct stat totals;
+    if (fstatvfs(folder_of(place), &device) != 0 || device.f_blocks == 0) return true;
+    if (fstatat(folder_of(place), "totals", &totals, AT_SYMLINK_NOFOLLOW) == 0) needed += (uint64_t)totals.st_size;
+    return (uint64_t)device.f_bavail >= needed / device.f_frsize + 1;
 }
 
 uint32_t povundiri_folder_spare(struct povundiri_place *place, struct povundiri_shape shape, uint64_t random,

@@ -101,6 +101,7 @@ struct povundiri_recording {
     uint64_t refusals;   /* how often a segment was refused since one was made */
     uint64_t again_at;   /* when one may be made again then */
     bool lacks_room;     /* the device, a quota or the folder was full, and nothing was folded since */
+    bool spends_reserve; /* nothing could be folded, so the next segment may take the room that a fold would need; read without the mutex */
     bool is_making_room; /* some thread folds, since there is no room for a segment */
     pthread_cond_t room; /* it does so no longer */
     bool is_preparing;   /* some thread makes a spare */

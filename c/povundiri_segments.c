@@ -75,6 +75,7 @@ static void forget_refusals(struct povundiri_recording *recording) {
     pthread_mutex_lock(&recording->mutex);
     recording->refusals = 0;
     recording->lacks_room = false;
+    __atomic_store_n(&recording->spends_reserve, false, __ATOMIC_RELAXED);
     pthread_mutex_unlock(&recording->mutex);
 }
 
@@ -207,7 +208,7 @@ static int look_for_room(const struct povundiri_recording *recording, const stru
     return fault == 0 && most > 0 && (own > most || bytes > most - own) ? EDQUOT : fault;
 }
 
-/* Makes a spare of this shape, with an id of its own. */
+/* Makes a spare of this shape, with an id of its own. It leaves the room that a fold needs, but where nothing could be folded. */
 static struct povundiri_owned *new_spare(const struct povundiri_recording *recording, struct povundiri_place *place,
                                          struct povundiri_shape shape, int *fault) {
     struct povundiri_owned *spare = NULL;
@@ -217,7 +218,11 @@ static struct povundiri_owned *new_spare(const struct povundiri_recording *recor
     shape.id = random_of(recording);
     status = povundiri_folder_spare(place, shape, random_of(recording), &spare, fault);
     if (status != POVUNDIRI_DONE && *fault == 0) *fault = ENOMEM;
-    return spare;
+    if (spare == NULL || __atomic_load_n(&recording->spends_reserve, __ATOMIC_RELAXED)) return spare;
+    if (povundiri_folder_leaves_room(place, shape)) return spare;
+    povundiri_folder_release(place, spare);
+    *fault = ENOSPC;
+    return NULL;
 }
 
 /* Later segments of the shard are as large as this. */
@@ -458,6 +463,7 @@ static int make_spare(struct povundiri_recording *recording, struct povundiri_pl
     spare->device = place->device;
     spare->inode = place->inode;
     pthread_mutex_lock(&recording->mutex);
+    if (spare->owned != NULL) __atomic_store_n(&recording->spends_reserve, false, __ATOMIC_RELAXED);
     if (spare->owned != NULL && recording->state == RECORDS && !is_fit(&recording->spare, place, spare->shape)) {
         other = recording->spare.owned;
         recording->spare = *spare;

@@ -93,8 +93,8 @@ void small_device() {
     }));
 }
 
-// Of threads that need a segment at once one folds, and the others wait for it. A fold needs a page for the new totals, which another
-// thread's spare may take: then samples are missed, to the unit, and tried again a second later.
+// Of threads that need a segment at once one folds, and the others wait for it. No thread's spare takes the pages that a fold needs for the
+// new totals, so nothing is missed.
 void small_device_of_threads() {
     HOLDS(in_child([] {
         constexpr int kThreads = 4, kSamples = 100;
@@ -111,10 +111,20 @@ void small_device_of_threads() {
             });
         }
         for (std::thread& thread : threads) thread.join();
-        const std::uint64_t missed = recording.missed(Missed::NoSpace);
-        const std::uint64_t left = static_cast<std::uint64_t>(kThreads * kSamples - counted) * kMost;
-        return counted > kSamples / 2 && missed == left && recording.missed() == left &&
+        return counted == kThreads * kSamples && recording.missed() == 0 &&
                units_in(recording.report(), "b") == 1LL * counted * kMost;
+    }));
+}
+
+// Where nothing can be folded, a segment takes the room that would be left for a fold: a file takes five pages, and the device has sixteen.
+void last_room() {
+    HOLDS(in_child([] {
+        const std::string device = folder("last_room"), path = device + "/metrics";
+        Recording first, second;
+        if (!mounts(device, "size=64k,mode=0700") || !opens(path, first, never_folded())) return false;
+        if (!metric_of(first, "b").add(1, 2) || !opens(path, second, never_folded())) return false;
+        return second.began().fault == 0 && second.began().number == 2 && metric_of(second, "b").add(1, 3) && second.missed() == 0 &&
+               units_in(second.report(), "b") == 5;
     }));
 }
 
@@ -300,6 +310,7 @@ int run() {
     const auto of_root = [](const char* name, void (*checks)()) { return group_of_root(name, checks, "only root can mount a device"); };
     int failed = of_root("a full device", small_device);
     failed += of_root("a full device for threads", small_device_of_threads);
+    failed += of_root("the room that is left for a fold", last_room);
     failed += group("a full quota", quota);
     failed += group("no room after a fold", no_room);
     failed += group("a limit of bytes", limit);

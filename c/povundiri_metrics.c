@@ -48,9 +48,8 @@ bool povundiri_metrics_find(const struct povundiri_metrics *metrics, const char 
     return false;
 }
 
-/* Whether a name and a spec are such as a histogram may have, and whether it is too large for segments of this shape, with samples in two
- * buckets: one in the heap says so. */
-static uint32_t judge(struct povundiri_shape shape, const struct povundiri_metric *metric, bool *is_it) {
+/* What a new segment of this shape, in the heap, says to a metric with samples in two buckets. */
+static uint32_t try_in(struct povundiri_shape shape, const struct povundiri_metric *metric) {
     struct povundiri_handle segment = {false, NULL}, recorder = {false, NULL};
     size_t hist = 0;
     uint32_t status = povundiri_create(shape, &segment);
@@ -62,7 +61,20 @@ static uint32_t judge(struct povundiri_shape shape, const struct povundiri_metri
     if (status == POVUNDIRI_DONE) status = povundiri_add(&recorder, hist, INT32_MAX, 1);
     if (recorder.held) povundiri_drop(&recorder);
     if (segment.held) povundiri_drop(&segment);
-    *is_it = status == POVUNDIRI_REFUSED_FULL || status == POVUNDIRI_REFUSED_TOO_LARGE;
+    return status;
+}
+
+static bool has_no_room(uint32_t status) { return status == POVUNDIRI_REFUSED_FULL || status == POVUNDIRI_REFUSED_TOO_LARGE; }
+
+/* Whether a name and a spec are such as a histogram may have, and whether it is too large for segments of this shape. Most fit in one page,
+ * which takes a small part of the time of a whole segment. */
+static uint32_t judge(struct povundiri_shape shape, const struct povundiri_metric *metric, bool *is_it) {
+    struct povundiri_shape page = shape;
+    uint32_t status;
+    page.size = shape.page;
+    status = try_in(page, metric);
+    if (has_no_room(status)) status = try_in(shape, metric);
+    *is_it = has_no_room(status);
     return *is_it ? (uint32_t)POVUNDIRI_DONE : status;
 }
 

@@ -9,7 +9,7 @@ enum { WORD = 8, HEADER_WORDS = 16, MOST_WORDS = 1048576 };
 enum { SEGMENT_COOKIE = 0x408305DC };
 
 /* The words of a header. */
-enum { COOKIE_AT = 0, VERSION_AT = 1, SIZE_AT = 2, PAGE_AT = 3, ID_AT = 4, FLAGS_AT = 6 };
+enum { COOKIE_AT = 0, VERSION_AT = 1, SIZE_AT = 2, PAGE_AT = 3, ID_AT = 4, FLAGS_AT = 6, FREE_AT = 7 };
 
 /* The flag of a full segment. */
 enum { FLAG_FULL = 2 };

@@ -34,14 +34,13 @@ static size_t bit_of(uint64_t length, uint64_t first) {
     return (size_t)(((known ^ length) * 0x9E3779B97F4A7C15U) >> 52);
 }
 
-/* In a record the length of the name is in a word, and the name begins in the next one; no record passes the free pointer (docs/FORMAT.md).
- * Other words look like that as well. */
+/* The names in all that looks like the record of a histogram, wherever it is: so in those that a reading finds as well. */
 static void note_names(struct came *came) {
-    const uint64_t end = came->length > FREE_AT && came->words[FREE_AT] < came->length ? came->words[FREE_AT] : came->length;
     size_t i;
-    for (i = 0; i + 1 < end; i += 1) {
-        if (came->words[i] - 1 < POVUNDIRI_LONGEST_NAME) {
-            const size_t bit = bit_of(came->words[i], came->words[i + 1]);
+    for (i = 0; i + NAME_AT < came->length; i += 1) {
+        const uint64_t *const block = came->words + i;
+        if (block[BLOCK_COOKIE_AT] == CLAIMED_COOKIE && block[BLOCK_TYPE_AT] == TYPE_HISTOGRAM) {
+            const size_t bit = bit_of(block[NAME_LENGTH_AT], block[NAME_AT]);
             came->names[bit / WORD_BITS] |= UINT64_C(1) << bit % WORD_BITS;
         }
     }

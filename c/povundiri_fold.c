@@ -19,17 +19,25 @@ enum { MOST_FOLDED = 256 };
 
 /* ---- Bytes ---- */
 
-static int write_all(int descriptor, const char *from, size_t bytes) {
+/* EFBIG if the process may not write a file of this length: a write would raise SIGXFSZ. */
+static int check_limit(size_t length) {
+    struct rlimit limit;
+    return getrlimit(RLIMIT_FSIZE, &limit) == 0 && limit.rlim_cur != RLIM_INFINITY && (rlim_t)length > limit.rlim_cur ? EFBIG : 0;
+}
+
+int povundiri_parts_write(int descriptor, const void *from, size_t bytes) {
     size_t done = 0;
+    const int fault = check_limit(bytes);
+    if (fault != 0) return fault;
     while (done < bytes) {
-        const ssize_t more = write(descriptor, from + done, bytes - done);
+        const ssize_t more = write(descriptor, (const char *)from + done, bytes - done);
         if (more < 0 && errno != EINTR) return errno;
         if (more > 0) done += (size_t)more;
     }
     return 0;
 }
 
-static int sync_descriptor(int descriptor) {
+int povundiri_parts_sync(int descriptor) {
     while (fsync(descriptor) != 0) {
         if (errno != EINTR) return errno;
     }
@@ -95,7 +103,7 @@ static int remove_named(struct fold *fold) {
         kept += 1;
     }
     totals->count = kept;
-    return sync_descriptor(fold->folder);
+    return povundiri_parts_sync(fold->folder);
 }
 
 /* Adds a segment, if it is final and the totals do not name it, and keeps its lock. */
@@ -180,19 +188,12 @@ static uint32_t text_of(struct fold *fold, char **text, size_t *length) {
     return POVUNDIRI_DONE;
 }
 
-/* EFBIG if the process may not write a file of this length: a write would raise SIGXFSZ. */
-static int check_limit(size_t length) {
-    struct rlimit limit;
-    return getrlimit(RLIMIT_FSIZE, &limit) == 0 && limit.rlim_cur != RLIM_INFINITY && (rlim_t)length > limit.rlim_cur ? EFBIG : 0;
-}
-
 /* Writes the new totals, syncs them, and gives them their place. Only the process that has the lock of folds comes here. */
 static int put_totals(const struct fold *fold, const char *text, size_t length) {
-    int fault = check_limit(length);
-    if (fault == 0) fault = write_all(fold->new.descriptor, text, length);
-    if (fault == 0) fault = sync_descriptor(fold->new.descriptor);
+    int fault = povundiri_parts_write(fold->new.descriptor, text, length);
+    if (fault == 0) fault = povundiri_parts_sync(fold->new.descriptor);
     if (fault == 0 && renameat(fold->folder, "totals.new", fold->folder, "totals") != 0) fault = errno;
-    return fault == 0 ? sync_descriptor(fold->folder) : fault;
+    return fault == 0 ? povundiri_parts_sync(fold->folder) : fault;
 }
 
 /* Closes what was opened for it. The name of totals that have not got their place is removed: the others have lost it. */
@@ -262,6 +263,7 @@ static uint32_t fold_once(int folder, mode_t mode, uint64_t *folded, bool *again
 /* Whether this user may fold, in a folder that is a recording's, which is marked then. `mode` is that of the mark, for what is made. */
 static int enter(int folder, mode_t *mode) {
     struct povundiri_listing listing;
+    enum povundiri_mark mark;
     struct stat about;
     int fault = fstat(folder, &about) == 0 ? 0 : errno;
     if (fault == 0 && geteuid() != 0 && about.st_uid != geteuid()) fault = FAULT_NOT_OWNER;
@@ -269,16 +271,23 @@ static int enter(int folder, mode_t *mode) {
     fault = povundiri_parts_list(folder, &listing);
     free(listing.numbers);
     if (fault == 0 && !povundiri_parts_is_recordings(&listing)) fault = FAULT_NO_RECORDING;
-    if (fault == 0) fault = povundiri_parts_make_mark(folder, 0600 | (about.st_mode & 0664));
-    if (fault == 0 && fstatat(folder, "recording", &about, AT_SYMLINK_NOFOLLOW) != 0) fault = errno;
-    *mode = 0600 | (about.st_mode & 0775);
-    return fault;
+    if (fault == 0) fault = povundiri_mark_make(folder, 0600 | (about.st_mode & 0664), 0);
+    if (fault == 0) fault = povundiri_mark_look(folder, &mark, mode);
+    return fault == 0 && mark == NO_MARK ? ENOENT : fault;
 }
 
 static int open_lock(struct povundiri_held *held, int folder, mode_t mode) {
     int fault = povundiri_parts_open(held, folder, "fold.lock", O_RDWR);
     if (fault == ENOENT) fault = povundiri_parts_make(held, folder, "fold.lock", O_RDWR, mode);
     return fault == EEXIST ? povundiri_parts_open(held, folder, "fold.lock", O_RDWR) : fault;
+}
+
+int povundiri_parts_lock_folds(struct povundiri_held *held, int folder, mode_t mode) {
+    int fault = open_lock(held, folder, mode);
+    if (fault != 0) return fault;
+    fault = povundiri_parts_lock(held->descriptor);
+    if (fault != 0) povundiri_parts_close(held);
+    return fault;
 }
 
 uint32_t povundiri_parts_fold(int folder, uint64_t *folded, int *fault) {
@@ -288,17 +297,17 @@ uint32_t povundiri_parts_fold(int folder, uint64_t *folded, int *fault) {
     mode_t mode = 0;
     bool again = false;
     *fault = enter(folder, &mode);
-    if (*fault == 0) *fault = open_lock(&held, folder, mode);
-    if (*fault != 0) return povundiri_parts_status(fault);
-    *fault = povundiri_parts_lock(held.descriptor);
-    if (*fault == 0) {
-        do {
-            status = fold_once(folder, mode, &more, &again, fault);
-            *folded += more;
-        } while (again);
+    if (*fault == 0) *fault = povundiri_parts_lock_folds(&held, folder, mode);
+    if (*fault == EBUSY) {
+        *fault = 0;
+        return POVUNDIRI_BUSY;
     }
+    if (*fault != 0) return povundiri_parts_status(fault);
+    do {
+        status = fold_once(folder, mode, &more, &again, fault);
+        *folded += more;
+    } while (again);
     povundiri_parts_close(&held);
-    if (*fault == EBUSY) status = POVUNDIRI_BUSY;
     if (status != POVUNDIRI_SYSTEM) *fault = 0;
     return status;
 }

@@ -243,13 +243,13 @@ static bool is_in_table(const char *name) {
     for (i = 0; i < sizeof NAMES / sizeof NAMES[0]; i += 1) {
         if (strcmp(name, NAMES[i]) == 0) return true;
     }
-    return povundiri_parts_is_spare(name);
+    return povundiri_parts_is_spare(name) || povundiri_mark_is_new(name);
 }
 
 static int list_name(void *context, const char *name) {
     struct povundiri_listing *listing = (struct povundiri_listing *)context;
     const uint64_t number = number_of(name, "seg"), damaged = number_of(name, "damaged");
-    listing->is_empty = false;
+    if (!povundiri_mark_is_new(name)) listing->is_empty = false;
     if (strcmp(name, "recording") == 0) listing->is_marked = true;
     if (number > 0 || damaged > 0 || strcmp(name, "totals") == 0) listing->has_any = true;
     if (number == 0 && damaged == 0 && !is_in_table(name)) listing->has_others = true;
@@ -273,22 +273,17 @@ static int ascending(const void *one, const void *other) {
     return (a > b) - (a < b);
 }
 
-int povundiri_parts_mark(int folder, bool *is_marked) {
-    struct stat about;
-    const int fault = fstatat(folder, "recording", &about, AT_SYMLINK_NOFOLLOW) == 0 ? 0 : errno;
-    *is_marked = false;
-    if (fault == 0) *is_marked = S_ISREG(about.st_mode) && about.st_size == 0;
-    return fault == ENOENT ? 0 : fault;
-}
-
 /* `numbers` are for free(), also after a fault. */
 int povundiri_parts_list(int folder, struct povundiri_listing *listing) {
     const struct povundiri_listing none = {NULL, 0, 0, 0, false, true, false, false};
+    enum povundiri_mark mark;
+    mode_t mode;
     int fault;
     *listing = none;
     fault = povundiri_parts_each(folder, list_name, listing);
     if (fault == 0 && listing->is_marked) {
-        fault = povundiri_parts_mark(folder, &listing->is_marked);
+        fault = povundiri_mark_look(folder, &mark, &mode);
+        listing->is_marked = mark == EMPTY_MARK || mark == WHOLE_MARK;
         if (!listing->is_marked) listing->has_others = true;
     }
     if (listing->count > 1) qsort(listing->numbers, listing->count, sizeof *listing->numbers, ascending);
@@ -297,25 +292,6 @@ int povundiri_parts_list(int folder, struct povundiri_listing *listing) {
 
 bool povundiri_parts_is_recordings(const struct povundiri_listing *listing) {
     return listing->is_marked || (listing->has_any && !listing->has_others);
-}
-
-int povundiri_parts_make_mark(int folder, mode_t mode) {
-    struct povundiri_listing listing;
-    struct povundiri_held held;
-    bool is_marked;
-    int fault = povundiri_parts_mark(folder, &is_marked);
-    if (fault != 0 || is_marked) return fault;
-    fault = povundiri_parts_list(folder, &listing);
-    free(listing.numbers);
-    if (fault != 0 || listing.is_marked) return fault;
-    if (listing.is_empty || povundiri_parts_is_recordings(&listing)) {
-        fault = povundiri_parts_make(&held, folder, "recording", O_WRONLY, mode);
-        if (fault == 0) povundiri_parts_close(&held);
-        if (fault != EEXIST) return fault;
-    }
-    /* Another process may have marked it, and begun, after the list was read. */
-    fault = povundiri_parts_mark(folder, &is_marked);
-    return fault == 0 && !is_marked ? FAULT_FOLDER_IN_USE : fault;
 }
 
 /* A folder, and the bytes of its files so far. */

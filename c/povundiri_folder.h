@@ -1,8 +1,10 @@
 /* The folder of recordings (povundiri_recording.h), for programs that read it or keep it small. Any process of its owner may do that, also
  * while others record; root may fold it, and who may read its files may read it.
  *
- *     recording           a regular file without bytes, which says what the folder is. Where it is missing, a folder is a recording's all the
- *                         same if it has a segment, a damaged file or totals, and nothing but these files and those of `history`
+ *     recording           the mark: it says what the folder is, with an id, and what processes have missed there. An empty file is one too.
+ *                         Where it is missing, a folder is a recording's all the same if it has a segment, a damaged file or totals, and
+ *                         nothing but these files and those of `history`. What else has that name makes it none
+ *     recording-RANDOM    a mark that is made, or was when its process was killed, by 16 hexadecimal digits
  *     0000000001.seg ..   segments in files (povundiri_file.h), each with an id of its own
  *     0000000004.damaged  what was segment 4, whose header has a fault: for you to look at, and to remove
  *     spare-PID-RANDOM    a segment that is not in use yet, by the process that made it and 16 hexadecimal digits; only where the system has

@@ -28,8 +28,8 @@ struct povundiri_listing {
     uint64_t *numbers; /* of segments, ascending */
     size_t count, room;
     uint64_t last;     /* the greatest number of a segment or of a damaged file; 0: there is none */
-    bool is_marked;    /* as a recording's: `recording` is a regular file without bytes */
-    bool is_empty;
+    bool is_marked;    /* as a recording's: `recording` is a whole mark or an empty one */
+    bool is_empty;     /* but for marks that have not got their name */
     bool has_any;    /* a segment, a damaged file, or totals */
     bool has_others; /* a name that no recording gives, or a `recording` of another kind */
 };
@@ -95,12 +95,6 @@ int povundiri_parts_join(char *path, const char *folder, const char *name);
 
 int povundiri_parts_each(int folder, povundiri_each_name *call, void *context);
 
-/* Whether the folder is marked as a recording's. 0, or the system's fault. */
-int povundiri_parts_mark(int folder, bool *is_marked);
-
-/* Marks it by a file of this mode, if it is empty or a recording's. FAULT_FOLDER_IN_USE if it is another one. */
-int povundiri_parts_make_mark(int folder, mode_t mode);
-
 /* `numbers` are for free(), also after a fault. */
 int povundiri_parts_list(int folder, struct povundiri_listing *listing);
 
@@ -109,6 +103,14 @@ bool povundiri_parts_is_recordings(const struct povundiri_listing *listing);
 
 /* How many bytes its files have, all together. */
 int povundiri_parts_bytes(int folder, uint64_t *bytes);
+
+/* Writes all bytes. 0, or the system's fault; EFBIG, and nothing is written, if the process may not write a file of that length. */
+int povundiri_parts_write(int descriptor, const void *from, size_t bytes);
+
+int povundiri_parts_sync(int descriptor);
+
+/* Opens the file whose lock a fold has, or makes it with this mode, and takes the lock. 0, EBUSY, or the system's fault. */
+int povundiri_parts_lock_folds(struct povundiri_held *held, int folder, mode_t mode);
 
 /* povundiri_folder_count, _sums and _fold of an open folder. */
 int povundiri_parts_count(int folder, uint64_t *segments);
@@ -129,6 +131,32 @@ int povundiri_parts_image(int descriptor, off_t length, struct povundiri_image *
 /* Whether a status is that of a header's fault. */
 bool povundiri_parts_is_fault(uint32_t status);
 
+/* ---- The mark ---- */
+
+/* The words of `recording` (docs/FORMAT.md). */
+enum { MARK_WORDS = 512, MARK_BYTES = WORD * MARK_WORDS, MARK_ID_AT = 2, MARK_MISSED_AT = 16 };
+
+/* What has the name `recording`: nothing; a mark without words, or of zeros, by an earlier version or on a full device; a mark with its
+ * words; or what is no mark. */
+enum povundiri_mark { NO_MARK, EMPTY_MARK, WHOLE_MARK, OTHER_FILE };
+
+/* Says it of a folder, and the mode of what a fold makes there, if there is a mark. 0, or the system's fault. */
+int povundiri_mark_look(int folder, enum povundiri_mark *mark, mode_t *mode);
+
+/* Opens it, and reads its words. 0, or the system's fault, and then it is not open. */
+int povundiri_mark_open(struct povundiri_held *held, int folder, int flags, struct stat *about, uint64_t *words, enum povundiri_mark *mark);
+
+/* Marks a folder by a file of this mode, if it is empty or a recording's. One that is marked already by an empty file gets a mark with
+ * words, if nobody folds, and it can be made. FAULT_FOLDER_IN_USE if it is another one. Its id is `known`, if that is not 0 and something
+ * is there that was recorded; else a new one. */
+int povundiri_mark_make(int folder, mode_t mode, uint64_t known);
+
+/* Whether it is the name of a mark that has not got its own. */
+bool povundiri_mark_is_new(const char *name);
+
+/* A random number, by the system. */
+uint64_t povundiri_parts_random(void);
+
 /* ---- Segments that this process records into ---- */
 
 /* A recording's folder. */
@@ -140,6 +168,7 @@ struct povundiri_place {
     mode_t mode;    /* of its files */
     dev_t device;   /* with the inode, of the folder */
     ino_t inode;
+    uint64_t id;       /* of the folder; 0: it is not known */
     bool keeps_locks;  /* the mapping of a file there keeps its lock, without a descriptor */
     bool names_spares; /* a spare has a name, since the system has no others, or does not name them later */
 };
@@ -175,6 +204,9 @@ int povundiri_place_enter(struct povundiri_place *place, const char *folder);
 /* Opens the folder anew, if its descriptor was closed; if the folder was removed, or another one has its path and the descriptor was closed, it
  * is made and marked again: *is_another. 0, or the system's fault, and then it is not open. */
 int povundiri_place_look(struct povundiri_place *place, bool *is_another);
+
+/* Whether it is open, and was not removed. */
+bool povundiri_place_stands(const struct povundiri_place *place);
 
 /* The folder by another descriptor, or what its path leads to by now. */
 int povundiri_place_copy(const struct povundiri_place *place, struct povundiri_held *held);

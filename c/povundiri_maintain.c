@@ -25,6 +25,12 @@ int povundiri_recording_folder(struct povundiri_recording *recording, struct pov
     return fault;
 }
 
+void povundiri_recording_all_missed(struct povundiri_recording *recording, int folder, uint64_t *missed) {
+    pthread_mutex_lock(&recording->mutex);
+    povundiri_missed_read(&recording->missed, folder, missed);
+    pthread_mutex_unlock(&recording->mutex);
+}
+
 /* Folds, if there are `least` segments or more. */
 static uint32_t fold(struct povundiri_recording *recording, uint64_t least, uint64_t *folded, int *fault) {
     struct povundiri_held folder;

@@ -25,17 +25,20 @@ static size_t processors(void) {
     return online > 0 ? (size_t)online : 1;
 }
 
-/* As many as are asked for; but no more than the folder may have segments, besides a spare. */
+/* How many segments may be in the folder besides its mark and a spare; at least one. */
+static uint64_t most_in(const struct povundiri_recording_options *options) {
+    const uint64_t all = options->most_bytes > MARK_BYTES ? (options->most_bytes - MARK_BYTES) / options->bytes : 0;
+    return all > 2 ? all - 1 : 1;
+}
+
+/* As many as are asked for; but no more than the folder may have segments. */
 static size_t shards_of(const struct povundiri_recording_options *options) {
     size_t shards = (size_t)options->shards;
     if (shards == 0) {
         shards = processors();
         if (shards > USUAL_SHARDS) shards = USUAL_SHARDS;
     }
-    if (options->most_bytes != 0 && options->most_bytes / options->bytes - 1 < shards) {
-        shards = (size_t)(options->most_bytes / options->bytes - 1);
-    }
-    return shards;
+    return options->most_bytes != 0 && most_in(options) < shards ? (size_t)most_in(options) : shards;
 }
 
 static void set_options(struct povundiri_recording *recording, const struct povundiri_recording_options *options) {
@@ -103,6 +106,7 @@ static struct povundiri_recording *new_recording(const struct povundiri_recordin
     bool is_made = true;
     if (recording == NULL) return NULL;
     set_options(recording, options);
+    povundiri_missed_begin(&recording->missed);
     recording->metrics.most_values = recording->options.most_values;
     recording->bytes = recording->options.bytes;
     recording->shape = povundiri_segments_shape_for(recording->bytes);
@@ -137,7 +141,9 @@ static uint32_t open_recording(const char *folder, struct povundiri_recording *r
     *fault = povundiri_place_enter(&first->folder, folder);
     if (*fault != 0) return povundiri_parts_status(fault);
     pthread_mutex_lock(&first->mutex);
+    povundiri_segments_look_for_mark(first);
     povundiri_segments_begin_first(first);
+    recording->began.id = first->folder.id;
     pthread_mutex_unlock(&first->mutex);
     povundiri_recordings_put(recording);
     return POVUNDIRI_DONE;
@@ -175,6 +181,7 @@ const struct povundiri_began *povundiri_recording_began(const struct povundiri_r
 /* No thread begins a segment from now on. */
 static void end_shard(struct shard *shard) {
     if (shard->state != RECORDS) return;
+    povundiri_segments_look_for_mark(shard);
     shard->state = HAS_ENDED;
     povundiri_counting_leave(shard);
     povundiri_segments_retire(shard);

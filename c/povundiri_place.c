@@ -15,12 +15,13 @@
 /* How old a named spare is before a start removes it. */
 enum { YOUNG_SECONDS = 60 };
 
-/* Removes a spare that nobody holds: the process that made it was killed. A young one may be about to get its lock. */
+/* Removes a spare that nobody holds, and a mark that has not got its name: the process that made it was killed. A young one may be about to
+ * get its lock, or its name. */
 static int sweep_name(void *context, const char *name) {
     const int folder = *(const int *)context;
     struct povundiri_held held;
     struct stat about;
-    if (!povundiri_parts_is_spare(name)) return 0;
+    if (!povundiri_parts_is_spare(name) && !povundiri_mark_is_new(name)) return 0;
     if (fstatat(folder, name, &about, AT_SYMLINK_NOFOLLOW) != 0 || time(NULL) - about.st_mtime <= YOUNG_SECONDS) return 0;
     if (povundiri_parts_open_locked(&held, folder, name, &about) != 0) return 0;
     unlinkat(folder, name, 0);
@@ -70,7 +71,8 @@ static int open_at_path(struct povundiri_place *place) {
     fault = povundiri_parts_open_folder(&place->held, place->path);
     if (fault != 0) return fault;
     fault = fstat(place->held.descriptor, &about) == 0 ? judge(place, &about) : errno;
-    if (fault == 0) fault = povundiri_parts_make_mark(place->held.descriptor, place->mode);
+    place->id = 0;
+    if (fault == 0) fault = povundiri_mark_make(place->held.descriptor, place->mode, 0);
     if (fault != 0) {
         povundiri_parts_close(&place->held);
         return fault;
@@ -103,6 +105,11 @@ static bool is_ours(const struct povundiri_place *place, struct stat *about) {
     return about->st_dev == place->device && about->st_ino == place->inode;
 }
 
+bool povundiri_place_stands(const struct povundiri_place *place) {
+    struct stat about;
+    return is_ours(place, &about) && about.st_nlink > 0;
+}
+
 /* Opens it anew by its path, if it is there still. */
 static bool is_found(struct povundiri_place *place) {
     struct stat about;
@@ -125,10 +132,10 @@ int povundiri_place_look(struct povundiri_place *place, bool *is_another) {
     struct stat about;
     *is_another = false;
     if (is_ours(place, &about)) {
-        if (about.st_nlink > 0) return as_system(povundiri_parts_make_mark(place->held.descriptor, place->mode));
+        if (about.st_nlink > 0) return as_system(povundiri_mark_make(place->held.descriptor, place->mode, place->id));
         povundiri_place_leave(place);
     } else if (is_found(place)) {
-        return as_system(povundiri_parts_make_mark(place->held.descriptor, place->mode));
+        return as_system(povundiri_mark_make(place->held.descriptor, place->mode, place->id));
     }
     *is_another = true;
     return as_system(open_at_path(place));
@@ -147,6 +154,7 @@ int povundiri_place_share(const struct povundiri_place *place, struct povundiri_
     other->mode = place->mode;
     other->device = place->device;
     other->inode = place->inode;
+    other->id = place->id;
     other->keeps_locks = place->keeps_locks;
     other->names_spares = place->names_spares;
     return fault;

@@ -1,4 +1,4 @@
-/* What a recording's folder has, as texts, followed by what this process has missed. */
+/* What a recording's folder has, as texts, followed by what all processes have missed there. */
 
 #define _GNU_SOURCE
 
@@ -15,22 +15,35 @@ static const char *const REASONS[MISSED_REASONS] = {"too_large", "other_spec", "
 
 const char *povundiri_missed_text(uint32_t reason) { return reason < MISSED_REASONS ? REASONS[reason] : NULL; }
 
-uint32_t povundiri_recording_sums(struct povundiri_recording *recording, struct povundiri_handle *sums, uint64_t *left, int *fault) {
+/* The sum of the folder, and what was missed by reason, unless that is null. */
+static uint32_t read_folder(struct povundiri_recording *recording, struct povundiri_handle *sums, uint64_t *left, uint64_t *missed,
+                            int *fault) {
     struct povundiri_held folder;
-    uint64_t own = 0;
     uint32_t status = POVUNDIRI_SYSTEM;
     int state;
-    if (recording == NULL || sums == NULL || fault == NULL) return POVUNDIRI_NULL;
-    if (sums->held) return POVUNDIRI_NOT_EMPTY;
     pthread_setcancelstate(PTHREAD_CANCEL_DISABLE, &state);
     *fault = povundiri_recording_folder(recording, &folder);
     if (*fault == 0) {
-        status = povundiri_parts_sums(folder.descriptor, sums, left != NULL ? left : &own, fault);
+        status = povundiri_parts_sums(folder.descriptor, sums, left, fault);
+        if (status == POVUNDIRI_DONE && missed != NULL) povundiri_recording_all_missed(recording, folder.descriptor, missed);
         povundiri_parts_close(&folder);
     }
     pthread_setcancelstate(state, NULL);
     return status;
 }
+
+uint32_t povundiri_recording_sums(struct povundiri_recording *recording, struct povundiri_handle *sums, uint64_t *left, int *fault) {
+    uint64_t own = 0;
+    if (recording == NULL || sums == NULL || fault == NULL) return POVUNDIRI_NULL;
+    if (sums->held) return POVUNDIRI_NOT_EMPTY;
+    return read_folder(recording, sums, left != NULL ? left : &own, NULL, fault);
+}
+
+/* What is in a text beside the sum. */
+struct beside {
+    uint64_t left;
+    uint64_t missed[MISSED_REASONS];
+};
 
 /* Which text, and what is asked of it. */
 struct asked {
@@ -46,17 +59,17 @@ static uint32_t text_call(struct povundiri_handle *sums, const struct asked *ask
 }
 
 /* What is written after the text of the sum, into room for it; the bytes of it. */
-static size_t write_ending(const struct povundiri_recording *recording, const struct asked *asked, uint64_t left, char *text, size_t room) {
+static size_t write_ending(const struct asked *asked, const struct beside *beside, char *text, size_t room) {
     const char *const prefix = asked->prefix != NULL ? asked->prefix : "povundiri";
     size_t at = 0, i;
 #define PUT(...) at += (size_t)snprintf(room > at ? text + at : NULL, room > at ? room - at : 0, __VA_ARGS__)
-    if (asked->what == REPORT && left > 0) PUT("!left,%" PRIu64 "\n", left);
+    if (asked->what == REPORT && beside->left > 0) PUT("!left,%" PRIu64 "\n", beside->left);
     if (asked->what == EXPORT) {
         PUT("# HELP %s_missed_total Units that were not counted, by reason.\n", prefix);
         PUT("# TYPE %s_missed_total counter\n", prefix);
     }
     for (i = 0; i < MISSED_REASONS; i += 1) {
-        const uint64_t missed = povundiri_recording_missed(recording, (uint32_t)i);
+        const uint64_t missed = beside->missed[i];
         if (asked->what == EXPORT) PUT("%s_missed_total{reason=\"%s\"} %" PRIu64 "\n", prefix, REASONS[i], missed);
         if (asked->what == REPORT && missed > 0) PUT("!missed,%s,%" PRIu64 "\n", REASONS[i], missed);
         if (asked->what == SHOW && missed > 0) PUT("missed, %s: %" PRIu64 "\n", REASONS[i], missed);
@@ -66,8 +79,8 @@ static size_t write_ending(const struct povundiri_recording *recording, const st
 }
 
 /* The text, for free(), with a zero after it. */
-static uint32_t text_of(const struct povundiri_recording *recording, struct povundiri_handle *sums, const struct asked *asked,
-                        uint64_t left, char **text, size_t *length) {
+static uint32_t text_of(struct povundiri_handle *sums, const struct asked *asked, const struct beside *beside, char **text,
+                        size_t *length) {
     enum { MOST_ENDING = 4096 };
     const size_t ending = MOST_ENDING + (asked->prefix != NULL ? 16 * strlen(asked->prefix) : 0);
     size_t needed = 0;
@@ -77,7 +90,7 @@ static uint32_t text_of(const struct povundiri_recording *recording, struct povu
     if (*text == NULL) return POVUNDIRI_NO_MEMORY;
     status = text_call(sums, asked, *text, needed, &needed);
     if (status == POVUNDIRI_DONE) {
-        *length = needed + write_ending(recording, asked, left, *text + needed, ending);
+        *length = needed + write_ending(asked, beside, *text + needed, ending);
         (*text)[*length] = 0;
     } else {
         free(*text);
@@ -88,13 +101,13 @@ static uint32_t text_of(const struct povundiri_recording *recording, struct povu
 
 static uint32_t text(struct povundiri_recording *recording, const struct asked *asked, char **text_at, size_t *length, int *fault) {
     struct povundiri_handle sums = {false, NULL};
-    uint64_t left = 0;
+    struct beside beside = {0, {0}};
     uint32_t status;
     if (recording == NULL || text_at == NULL || length == NULL || fault == NULL) return POVUNDIRI_NULL;
     *text_at = NULL;
     *length = 0;
-    status = povundiri_recording_sums(recording, &sums, &left, fault);
-    if (status == POVUNDIRI_DONE) status = text_of(recording, &sums, asked, left, text_at, length);
+    status = read_folder(recording, &sums, &beside.left, beside.missed, fault);
+    if (status == POVUNDIRI_DONE) status = text_of(&sums, asked, &beside, text_at, length);
     if (sums.held) povundiri_sums_drop(&sums);
     return status;
 }

@@ -424,7 +424,7 @@ static void forget_recording(struct povundiri_recording *recording) {
     recording->state = IS_FORKED;
     recording->spare.owned = NULL;
     recording->is_making_room = recording->is_preparing = false;
-    memset(recording->missed, 0, sizeof recording->missed);
+    povundiri_missed_forget(&recording->missed);
     for (i = 0; i < recording->shard_count; i += 1) forget_shard(&recording->shards[i]);
 }
 
@@ -526,7 +526,7 @@ void povundiri_recording_leave(struct povundiri_recording *recording) {
 
 uint64_t povundiri_recording_missed(const struct povundiri_recording *recording, uint32_t reason) {
     if (recording == NULL || reason >= MISSED_REASONS) return 0;
-    return __atomic_load_n(&recording->missed[reason], __ATOMIC_RELAXED);
+    return povundiri_missed_own(&recording->missed, reason);
 }
 
 /* ---- Metrics ---- */

@@ -34,7 +34,8 @@
  * makes the file of the segment after the present one, a spare, if there is none. Beyond 250 threads of a shard, further ones share a
  * recorder, and each of their samples takes the mutex.
  *
- * WHAT COULD NOT BE COUNTED is counted, by reason: povundiri_recording_missed. It is in the texts of this process as well.
+ * WHAT COULD NOT BE COUNTED is counted, by reason: povundiri_recording_missed. It is in the folder's mark as well (povundiri_folder.h), and
+ * in the texts of every process, also after a kill. A process that cannot map the mark keeps it, and adds it to the next one.
  *
  * SPECS. If a release changes the buckets of a histogram, the segment that it continues is followed by the next one, and its samples count at
  * once. But texts show one spec of a name, so a histogram whose buckets change should get another name. If a name has several specs, texts
@@ -56,7 +57,8 @@
  * chroot. If the folder is removed, its path is made again. If somebody removes the present segment, or empties the folder, that is seen
  * by the
  * next text, and within a second where a sample takes the mutex. Then the next segment is begun, and the units that were in the removed one
- * when the last thread left it are missed, as REMOVED. A folder that has lost its mark is marked again.
+ * when the last thread left it are missed, as REMOVED. A folder that has lost its mark is marked again, with its id, and each process adds
+ * what it has missed.
  *
  * A KILL, exit and _exit lose no sample whose call had returned. Where spares have names (povundiri_folder.h), one may be left, which an open
  * removes a minute later. A crash of the machine may lose what no fold has synced.
@@ -110,8 +112,8 @@ struct povundiri_recording;
  *             of the process: as many as there are shards may begin at once; 0: 1,000,000. The first segment of a shard may be followed at
  *             once, and for a sample one that children have filled. One of the largest size that has no room is not followed before a
  *             second has passed
- *   random    returns random numbers, for ids and names, another one each time; null: getrandom(2). Threads call it as they record, also
- *             two at once, and it makes no call of a recording
+ *   random    returns random numbers, for ids of segments and names of spares, another one each time; null: getrandom(2). Threads call it as
+ *             they record, also two at once, and it makes no call of a recording
  *   context   what `random` is given
  *   flags     whom the folder and its files may belong to (USERS, above): 0, or one or both of
  *             POVUNDIRI_FILE_ANY_OWNER, POVUNDIRI_FILE_GROUP_WRITES
@@ -120,7 +122,7 @@ struct povundiri_recording;
  *   most_bytes   that all files of the folder have together, where a segment is made; 0: no limit; else at least two of `bytes`. It is
  *             a limit as that of a device is (A FULL DEVICE, above). Spares without a name, of which other processes have one each, are not
  *             counted. Where there is a limit, threads of a process make segments one after the other, and there are no more shards than it
- *             has room for segments of `bytes` beside a spare
+ *             has room for segments of `bytes` beside the mark and a spare
  *   most_values   that each sparse histogram has in this process; 0: 65,536; UINT64_MAX: no limit. Samples of others are missed, as VALUES,
  *             so that values from outside, such as numbers of users, do not fill the folder, nor its totals. The table of them, of 16 to 32
  *             bytes for each, is made with the histogram, and its pages take memory as they are used
@@ -148,13 +150,15 @@ struct povundiri_recording_options {
  *   refused    what is wrong with the image of the folder's newest segment, so that it is not continued (povundiri_adopt, povundiri_report);
  *              else POVUNDIRI_DONE, also if that segment is in use, full, or of another size or user
  *   fault      the system's (errno.h), if no segment could be made; else 0
- *   set_aside  the new path of the newest segment, NUMBER.damaged, if its header has a fault; else empty */
+ *   set_aside  the new path of the newest segment, NUMBER.damaged, if its header has a fault; else empty
+ *   id         of the folder (povundiri_folder.h); 0: it is not known, since the folder has no mark with words, or this user may not write it */
 struct povundiri_began {
     uint64_t number;
     bool adopted;
     uint32_t refused;
     int fault;
     char set_aside[POVUNDIRI_PATH_BYTES];
+    uint64_t id;
 };
 
 /* Why units were not counted. A reason has its number for good; later versions may have more.
@@ -264,8 +268,8 @@ inline bool povundiri_recording_add(struct povundiri_recording *recording, size_
  * Keep: process. */
 void povundiri_recording_leave(struct povundiri_recording *recording);
 
-/* How many units this process has missed for a reason since it opened the recording, or since it was forked. 0 for a null, and for what is
- * no reason.
+/* How many units this process has missed for a reason since it opened the recording, or since it was forked. Texts have those of all
+ * processes. 0 for a null, and for what is no reason.
  * Keep: process. */
 uint64_t povundiri_recording_missed(const struct povundiri_recording *recording, uint32_t reason);
 
@@ -330,7 +334,8 @@ uint32_t povundiri_recording_sums(struct povundiri_recording *recording, struct 
                                   int *fault) POVUNDIRI_CHECKED;
 
 /* Texts of the sum: its report as CSV, its metrics for Prometheus, and its text for people (povundiri_sums_report, _export, _show, which say
- * what `prefix` and `width` are). Each is followed by what this process has missed, with a REASON in lower case, such as no_space:
+ * what `prefix` and `width` are). Each is followed by what all processes have missed there since the folder was marked, with a REASON in
+ * lower case, such as no_space; if the mark cannot be read, by what this process has missed:
  *   report   !missed,REASON,UNITS for each reason with units; before that !left,SEGMENTS, if some were left out (povundiri_folder_sums)
  *   export   a counter, PREFIX_missed_total{reason="REASON"}, for each reason
  *   show     `missed, REASON: UNITS` for each reason with units

@@ -227,9 +227,9 @@ public:
         return units;
     }
 
-    // What the folder has: its report as CSV, its metrics for Prometheus, its text for people. They fail with Busy if folds have ended
-    // sixteen times meanwhile, and as povundiri_folder_sums says; 'prometheus' also with BadPrefix. 'try_prometheus' leaves its text unchanged
-    // then. A 'width' of 0 is 80 cells.
+    // What the folder has, and what all its processes have missed: its report as CSV, its metrics for Prometheus, its text for people. They
+    // fail with Busy if folds have ended sixteen times meanwhile, and as povundiri_folder_sums says; 'prometheus' also with BadPrefix.
+    // 'try_prometheus' leaves its text unchanged then. A 'width' of 0 is 80 cells.
     std::string report() {
         return text("report",
                     [this](char** at, std::size_t* size, int* fault) { return povundiri_recording_report(recording_, at, size, fault); });

@@ -209,15 +209,6 @@ uint32_t povundiri_recording_merge(struct povundiri_recording *recording, const 
     return status;
 }
 
-/* Counts units of a child as missed. A child may claim any number, so this ends at the greatest one. */
-static void miss_child(struct povundiri_recording *recording, uint64_t units) {
-    uint64_t *const missed = &recording->missed[POVUNDIRI_MISSED_CHILD];
-    uint64_t before = __atomic_load_n(missed, __ATOMIC_RELAXED), after;
-    do {
-        after = units < UINT64_MAX - before ? before + units : UINT64_MAX;
-    } while (!__atomic_compare_exchange_n(missed, &before, after, true, __ATOMIC_RELAXED, __ATOMIC_RELAXED));
-}
-
 uint32_t povundiri_recording_give_up(struct povundiri_recording *recording, struct povundiri_handle *follower, const uint64_t *words,
                                      size_t length, struct povundiri_merge_report *report) {
     struct povundiri_merge_report made;
@@ -228,7 +219,7 @@ uint32_t povundiri_recording_give_up(struct povundiri_recording *recording, stru
     memset(&made, 0, sizeof made);
     pthread_setcancelstate(PTHREAD_CANCEL_DISABLE, &state);
     if (state_of(recording) != IS_FORKED) status = povundiri_follower_skip(follower, words, length, &made.left);
-    if (status == POVUNDIRI_DONE) miss_child(recording, made.left);
+    if (status == POVUNDIRI_DONE) povundiri_missed_add(&recording->missed, POVUNDIRI_MISSED_CHILD, made.left);
     pthread_setcancelstate(state, NULL);
     povundiri_parts_give(&made, report);
     return status;

@@ -9,6 +9,55 @@
 /* How many reasons there are. */
 enum { MISSED_REASONS = POVUNDIRI_MISSED_VALUES + 1 };
 
+/* What this process has missed while its folder had one mark. */
+struct povundiri_missed_in {
+    struct povundiri_missed_in *before;
+    uint64_t *words; /* of the mark, by reason, to which it was added at once */
+    uint64_t own[MISSED_REASONS];
+    uint64_t given[MISSED_REASONS]; /* what was missed in the others, and was added to this mark later */
+    uint64_t id;                    /* of the folder; 0: there was no mark */
+    dev_t device;                   /* with the inode, of the mark */
+    ino_t inode;
+};
+
+/* What this process has missed of a recording. All but the sums of `own` is changed with the recording's mutex. */
+struct povundiri_missed_all {
+    struct povundiri_missed_in *now;
+    uint64_t id;  /* of the folder in which a mark was found last; 0: in none yet */
+    dev_t device; /* with the inode, of that folder */
+    ino_t inode;
+    struct povundiri_missed_in *last; /* of all marks that it had, the first of which is none */
+    struct povundiri_missed_in first;
+    uint64_t nowhere[MISSED_REASONS];
+    size_t count;
+};
+
+/* Nothing yet, in zeros. */
+void povundiri_missed_begin(struct povundiri_missed_all *all);
+
+/* In a child of fork: what its parent has missed is its parent's. */
+void povundiri_missed_forget(struct povundiri_missed_all *all);
+
+/* Counts units of which a child may have claimed any number: they end at the greatest one. */
+void povundiri_missed_add(struct povundiri_missed_all *all, size_t reason, uint64_t units);
+
+/* What this process has missed for a reason. */
+uint64_t povundiri_missed_own(const struct povundiri_missed_all *all, size_t reason);
+
+/* Finds the mark that the folder has by now, which gets what it lacks of this process, and notes the folder's id in `place`. A folder that
+ * was removed has none, and is passed over: another shard may know where to count by now. */
+void povundiri_missed_look(struct povundiri_missed_all *all, struct povundiri_place *place);
+
+/* Notes the folder's id in `place`, if another shard has found a mark there last. */
+void povundiri_missed_note_id(const struct povundiri_missed_all *all, struct povundiri_place *place);
+
+/* What all processes have missed, by reason, as the folder's mark says, with what it lacks of this process. If it cannot be read, what this
+ * process has missed. */
+void povundiri_missed_read(const struct povundiri_missed_all *all, int folder, uint64_t *missed);
+
+/* The same of a recording's folder. */
+void povundiri_recording_all_missed(struct povundiri_recording *recording, int folder, uint64_t *missed);
+
 /* Its folder, by a descriptor of the caller's own, after a look at whether the present segments are there. 0, or the system's fault. */
 int povundiri_recording_folder(struct povundiri_recording *recording, struct povundiri_held *held);
 

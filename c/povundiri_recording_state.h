@@ -85,7 +85,7 @@ struct povundiri_recording {
     struct shard *shards;
 
     uint64_t threads; /* how many have counted a sample */
-    uint64_t missed[MISSED_REASONS] __attribute__((aligned(LINES)));
+    struct povundiri_missed_all missed __attribute__((aligned(LINES))); /* a miss takes no mutex; whoever looks for marks has `mutex` */
 
     pthread_mutex_t asking;           /* metrics are added */
     struct povundiri_metrics metrics; /* without a mutex for who reads them */
@@ -108,7 +108,9 @@ struct povundiri_recording {
 };
 
 static inline void miss(struct povundiri_recording *recording, enum povundiri_missed reason, uint64_t count) {
-    __atomic_fetch_add(&recording->missed[reason], count, __ATOMIC_RELAXED);
+    struct povundiri_missed_in *const now = __atomic_load_n(&recording->missed.now, __ATOMIC_ACQUIRE);
+    __atomic_fetch_add(&now->own[reason], count, __ATOMIC_RELAXED);
+    __atomic_fetch_add(&now->words[reason], count, __ATOMIC_RELAXED);
 }
 
 static inline enum state state_of(const struct povundiri_recording *recording) {
@@ -161,6 +163,9 @@ bool povundiri_segments_has_begun(struct shard *shard);
 
 /* Begins the next segment. The system's fault, or 0; EAGAIN: it was refused before, and is not tried yet. */
 int povundiri_segments_begin_next(struct shard *shard);
+
+/* Finds the mark that the folder has by now, which gets what it lacks of this process. The mutex of the recording is taken. */
+void povundiri_segments_look_for_mark(struct shard *shard);
 
 /* If the present segment has lost its name in the folder, the next one is begun. This is looked at once in a second, or at once. */
 void povundiri_segments_look(struct shard *shard, bool at_once);

@@ -1,12 +1,10 @@
 /* Which segments a recording counts in: how they are begun, given up, and made before they are needed. */
-#define _GNU_SOURCE /* getrandom */
+#define _GNU_SOURCE
 
 #include <errno.h>
 #include <stdlib.h>
 #include <string.h>
-#include <sys/random.h>
 #include <time.h>
-#include <unistd.h>
 
 #include "povundiri_recording_state.h"
 
@@ -25,12 +23,7 @@ uint64_t povundiri_segments_now(void) {
 
 /* A number for an id, or for a name. */
 static uint64_t random_of(const struct povundiri_recording *recording) {
-    static uint64_t last;
-    uint64_t number = 0;
-    if (recording->options.random != NULL) return recording->options.random(recording->options.context);
-    if (getrandom(&number, sizeof number, GRND_NONBLOCK) == (ssize_t)sizeof number) return number;
-    /* Early at the start of the machine there is no chance yet. */
-    return (povundiri_segments_now() * 0x9E3779B97F4A7C15U) ^ ((uint64_t)getpid() << 32) ^ __atomic_add_fetch(&last, 1, __ATOMIC_RELAXED);
+    return recording->options.random != NULL ? recording->options.random(recording->options.context) : povundiri_parts_random();
 }
 
 /* The shape of segments in `bytes` bytes, as povundiri::shape_for has it. */
@@ -261,11 +254,29 @@ static struct povundiri_owned *new_next(struct shard *shard, int *fault) {
     return next;
 }
 
+/* Where the folder has lost its mark, the next one has the id that any shard knows. */
+static void note_id(struct shard *shard) {
+    struct povundiri_recording *const recording = shard->recording;
+    pthread_mutex_lock(&recording->mutex);
+    povundiri_missed_note_id(&recording->missed, &shard->folder);
+    pthread_mutex_unlock(&recording->mutex);
+}
+
+void povundiri_segments_look_for_mark(struct shard *shard) {
+    struct povundiri_recording *const recording = shard->recording;
+    pthread_mutex_lock(&recording->mutex);
+    povundiri_missed_look(&recording->missed, &shard->folder);
+    pthread_mutex_unlock(&recording->mutex);
+}
+
 /* Finds the folder, wherever it is by now. If it was removed, and is another one, nothing that was in it is there. */
 static int look_for_folder(struct shard *shard) {
     struct povundiri_owned *old;
     bool is_another;
-    const int fault = povundiri_place_look(&shard->folder, &is_another);
+    int fault;
+    note_id(shard);
+    fault = povundiri_place_look(&shard->folder, &is_another);
+    povundiri_segments_look_for_mark(shard);
     if (!is_another) return fault;
     if (shard->current != NULL) shard->current->is_gone = true;
     for (old = shard->old; old != NULL; old = old->next) old->is_gone = true;

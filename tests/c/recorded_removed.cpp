@@ -29,7 +29,7 @@ void empty(const std::string& path) {
     for (const auto& entry : files::directory_iterator(path)) files::remove_all(entry.path());
 }
 
-bool is_marked(const std::string& path) { return bytes_of(path + "/recording") == 0; }
+bool is_marked(const std::string& path) { return bytes_of(path + "/recording") == 4096; }
 
 // A thousand units are counted, then the folder is changed: the text says how many are gone, a later sample is counted, also after the next
 // segment is begun, and the next start works.

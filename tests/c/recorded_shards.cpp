@@ -154,7 +154,8 @@ void one_thread() {
             HOLDS(mapped > 0 && opened > 0 && mapped_in(path) == mapped && descriptors() - before == opened);
             recording.leave();
             recording.end();
-            HOLDS(mapped_in(path) == 0 && descriptors() == before);
+            // The mark stays mapped: a thread may be about to miss something.
+            HOLDS(mapped_in(path) == 1 && descriptors() == before);
         }
     }
 }
@@ -497,7 +498,8 @@ void limit() {
         const std::string path = folder_of("limit", most);
         RecordingOptions options = of(16);
         options.fold_at = UINT64_MAX;
-        options.most_bytes = most * kSmall + 4'096;
+        // Beside the segments, the mark, and the totals of a fold.
+        options.most_bytes = most * kSmall + 4'096 + 4'096;
         Recording recording;
         HOLDS(opens(path, recording, options));
         const Metric metric = metric_of(recording, "b");
@@ -593,6 +595,83 @@ void moved() {
     threads.all([&](std::size_t) { HOLDS(metric.add(1, kMost) && metric.add(1, kMost)); });
     HOLDS(segments_in(to) == 8 && bytes_of(path) == -1 && recording.missed() == 0);
     HOLDS(units_in(recording.report(), "b") == 2 + 8LL * kMost);
+}
+
+// A word of a folder's mark (docs/FORMAT.md): its id, and where the units begin that were missed, by reason. 0: there is none.
+constexpr std::size_t kId = 2, kMissed = 16;
+
+std::uint64_t word_of(const std::string& path, std::size_t at) {
+    std::ifstream mark(path + "/recording", std::ios::binary);
+    std::uint64_t word = 0;
+    mark.seekg(static_cast<std::streamoff>(8 * at));
+    mark.read(reinterpret_cast<char*>(&word), sizeof word);
+    return mark ? word : 0;
+}
+
+std::uint64_t marked(const std::string& path, Missed reason) { return word_of(path, kMissed + static_cast<std::size_t>(reason)); }
+
+// Threads of all shards miss units and roll, while the mark is removed and texts are read: it has the same id again, and in the end each unit
+// once.
+void removed_marks() {
+    for (const std::uint64_t shards : kShards) {
+        const std::string path = folder_of("marks", shards);
+        RecordingOptions options = of(shards);
+        options.most_values = 1;
+        Recording recording;
+        HOLDS(opens(path, recording, options));
+        const Metric metric = metric_of(recording, "s", kSparse);
+        const std::uint64_t id = recording.began().id;
+        std::atomic<bool> ends{false};
+        std::vector<std::thread> threads;
+        HOLDS(metric.add(0) && id != 0 && word_of(path, kId) == id);
+        for (int i = 0; i < 6; ++i) {
+            threads.emplace_back([&] {
+                for (int sample = 0; !ends; ++sample) (void)(sample % 1000 == 0 ? metric.add(0, kMost / 4) : metric.add(1, 3));
+            });
+        }
+        for (int i = 0; i < 20; ++i) {
+            HOLDS(std::remove((path + "/recording").c_str()) == 0);
+            usleep(500);
+            HOLDS(recording.report().find("!missed,values,") != std::string::npos && word_of(path, kId) == id);
+        }
+        ends = true;
+        for (std::thread& thread : threads) thread.join();
+        HOLDS(!recording.report().empty() && recording.missed(Missed::Values) > 1000);
+        for (const Missed reason : {Missed::NoSpace, Missed::Rolling, Missed::Removed, Missed::Values}) {
+            HOLDS(marked(path, reason) == recording.missed(reason));
+        }
+        recording.end();
+        HOLDS(!metric.add(0, 7) && marked(path, Missed::Ended) == 7);
+    }
+}
+
+// One shard alone has seen that a folder was emptied, or removed: another one gives the next mark the same id, and at the end what is missed
+// is in the mark that is there.
+void one_sees_it() {
+    for (const bool is_removed : {false, true}) {
+        const std::string path = folder_of("sees", is_removed);
+        Recording recording;
+        HOLDS(opens(path, recording, of(3)));
+        const Metric metric = metric_of(recording, "b");
+        const std::uint64_t before = recording.began().id;
+        std::uint64_t id = 0;
+        Threads threads(3);
+        threads.each([&](std::size_t) { HOLDS(metric.add(1)); });
+        if (is_removed) files::remove_all(path);
+        if (!is_removed) {
+            for (const std::string& name : names_in(path)) HOLDS(std::remove((path + "/" + name).c_str()) == 0);
+        }
+        threads.each([&](std::size_t i) { HOLDS(i != 1 || (metric.add(1, kMost) && metric.add(1, kMost))); });
+        id = word_of(path, kId);
+        HOLDS(id != 0 && id != before);
+        if (!is_removed) {
+            HOLDS(std::remove((path + "/recording").c_str()) == 0);
+            threads.each([&](std::size_t i) { HOLDS(i != 0 || (metric.add(1, kMost) && metric.add(1, kMost))); });
+            HOLDS(word_of(path, kId) == id);
+        }
+        recording.end();
+        HOLDS(!metric.add(1, 5) && marked(path, Missed::Ended) == 5);
+    }
 }
 
 // A sparse histogram has as many values as it may in the process, whichever threads count them.
@@ -720,6 +799,7 @@ int run(bool only_threads) {
     failed += group("values", values);
     failed += group("a limit of bytes", limit);
     failed += group("an idle thread", idle);
+    failed += group("marks that are removed", removed_marks);
     if (only_threads) return failed;
     failed += group("one thread", one_thread);
     failed += group("the usual number", usual_number);
@@ -730,6 +810,7 @@ int run(bool only_threads) {
     failed += group("shards without a segment", refused_shards);
     failed += group("removed", removed);
     failed += group("moved", moved);
+    failed += group("one shard sees it", one_sees_it);
     failed += group("two specs", two_specs);
     failed += group("another spec", other_spec);
     return failed;

@@ -90,7 +90,7 @@ void fold_by_root() {
     HOLDS(std::remove((path + "/recording").c_str()) == 0 && in_child([&] { return becomes(kOwner) && counts(path, 1); }));
     HOLDS(std::remove((path + "/recording").c_str()) == 0);
     ANSWERS(DONE, folds(path, folded));
-    HOLDS(folded == 1 && are_as(path, kOwner, kOwner, 0600) && bytes_of(path + "/recording") == 0);
+    HOLDS(folded == 1 && are_as(path, kOwner, kOwner, 0600) && bytes_of(path + "/recording") == 4096);
 }
 
 // A fold of root gives away no file that was there before: it may have another name as well.

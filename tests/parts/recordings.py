@@ -49,6 +49,7 @@ OF_CHILDREN = (
 CHECKED = {
     "recorded_times": (), "recorded_names": (), "recorded_families": ("malloc",), "recorded_options": (),
     "recorded": ("clock_gettime", "posix_fallocate"), "recorded_folders": ("openat", "flock", "linkat"),
+    "recorded_mark": ("openat", "write", "fsync", "linkat", "renameat", "fchmodat", "unlinkat", "mmap"),
     "recorded_removed": (), "recorded_children": OF_CHILDREN, "recorded_refusals": OF_CHILDREN, "recorded_users": (),
     "recorded_room": ("posix_fallocate",), "recorded_values": ("posix_fallocate",), "silence": (),
     "recorded_shards": ("posix_fallocate", "clock_gettime"),
@@ -300,25 +301,27 @@ def folds_killed(runs: Folder) -> str | None:
 
 def beginnings_killed(runs: Folder, mode: str, **settings: str) -> str | None:
     """The program is killed before each of the calls to the system with which it starts and begins segments. It leaves
-    spares only if the settings say that the system has no files without a name, and then a start removes the old."""
+    spares only if the settings say that the system has no files without a name. A start removes the old, and old marks
+    that have not got their name."""
     for at in range(1, BEGINNINGS):
         status = stopped(runs.words(0, runs.chance.choice(SIZES), ENOUGH_SECONDS, mode), at, **settings)
         if status != -9:
             return f"status {status} where it is killed before call {at}"
-        wrong = runs.wrong() if (runs.folder / "recording").exists() else None
-        if wrong is None and at % 20 == 0:
+        is_marked = (runs.folder / "recording").exists()
+        wrong = runs.wrong() if is_marked else None
+        if wrong is None and is_marked and at % 20 == 0:
             wrong = runs.folded()
         if wrong is not None:
             return f"killed before call {at}: {wrong}"
-    left = [*runs.folder.glob("spare-*")]
-    if bool(left) != bool(settings):
-        return f"spares are left: {left}"
-    for path in left:
+    spares, marks = ([*runs.folder.glob(name)] for name in ("spare-*", "recording-*"))
+    if bool(spares) != bool(settings):
+        return f"spares are left: {spares}"
+    for path in (*spares, *marks):
         os.utime(path, (0, 0))
     with runs.running(0, SIZES[0], mode):
         time.sleep(0.05)
-    left = [*runs.folder.glob("spare-*")]
-    return f"spares are still left: {left}" if left else runs.wrong()
+    left = [*runs.folder.glob("*-*")]
+    return f"still left are {left}" if left else runs.wrong()
 
 
 def wrapped(calls: Sequence[str]) -> list[str]:

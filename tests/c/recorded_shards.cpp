@@ -17,6 +17,7 @@
 #include <vector>
 
 #include "recorded.hpp"
+#include "recorded_threads.hpp"
 #include "shown_clock.hpp"
 
 namespace {
@@ -50,57 +51,6 @@ RecordingOptions of(std::uint64_t shards) {
     options.shards = shards;
     return options;
 }
-
-// Threads that do as many things, one thing after the other, each all of them; until all have ended, none of them ends.
-class Threads {
-   public:
-    explicit Threads(std::size_t count) : gates_(kStages) {
-        for (std::size_t i = 0; i < count; ++i) {
-            threads_.emplace_back([this, i] {
-                for (std::size_t stage = 0; stage < kStages; ++stage) {
-                    gates_[stage].wait();
-                    if (ends_) return;
-                    doing_(i);
-                    ++done_;
-                }
-            });
-        }
-    }
-    // Each does this, at the same time.
-    void all(std::function<void(std::size_t)> what) {
-        gates_[stage_].wait_for(static_cast<int>(threads_.size()));
-        doing_ = std::move(what);
-        done_ = 0;
-        gates_[stage_++].open_for(static_cast<int>(threads_.size()));
-        while (done_ != threads_.size()) usleep(50);
-    }
-    // The same one after the other, by their order.
-    void each(const std::function<void(std::size_t)>& what) {
-        std::atomic<std::size_t> next{0};
-        all([&](std::size_t i) {
-            while (next != i) usleep(50);
-            what(i);
-            ++next;
-        });
-    }
-    ~Threads() {
-        gates_[stage_].wait_for(static_cast<int>(threads_.size()));
-        ends_ = true;
-        gates_[stage_].open_for(static_cast<int>(threads_.size()));
-        for (std::thread& thread : threads_) thread.join();
-    }
-    Threads(const Threads&) = delete;
-    Threads& operator=(const Threads&) = delete;
-
-   private:
-    static constexpr std::size_t kStages = 16;
-    std::vector<Gate> gates_;
-    std::size_t stage_ = 0;
-    std::function<void(std::size_t)> doing_;
-    std::atomic<std::size_t> done_{0};
-    std::atomic<bool> ends_{false};
-    std::vector<std::thread> threads_;
-};
 
 std::set<std::string> names_in(const std::string& path) {
     std::set<std::string> names;
@@ -629,6 +579,7 @@ void removed_marks() {
                 for (int sample = 0; !ends; ++sample) (void)(sample % 1000 == 0 ? metric.add(0, kMost / 4) : metric.add(1, 3));
             });
         }
+        while (recording.missed(Missed::Values) == 0) usleep(50);
         for (int i = 0; i < 20; ++i) {
             HOLDS(std::remove((path + "/recording").c_str()) == 0);
             usleep(500);
@@ -650,8 +601,11 @@ void removed_marks() {
 void one_sees_it() {
     for (const bool is_removed : {false, true}) {
         const std::string path = folder_of("sees", is_removed);
+        RecordingOptions options = of(3);
+        // Who makes a spare does not look whether there are many segments, so it does not look at the folder for all shards.
+        options.fold_at = UINT64_MAX;
         Recording recording;
-        HOLDS(opens(path, recording, of(3)));
+        HOLDS(opens(path, recording, options));
         const Metric metric = metric_of(recording, "b");
         const std::uint64_t before = recording.began().id;
         std::uint64_t id = 0;

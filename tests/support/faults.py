@@ -23,7 +23,7 @@ TABLES = ROOT / "crates" / "fault_texts" / "src"
 TABLE, TEXT_TABLE, WORLD_TABLE, C_TABLE = (
     TABLES / name for name in ("table.rt", "text_table.rt", "world_table.rt", "c_table.rt")
 )
-STATUSES = ROOT / "crates" / "persist_report" / "src" / "failure.rt"
+STATUSES = ROOT / "crates" / "report_streams" / "src" / "failure.rt"
 HEADER, NAMES, CLASSES = (ROOT / "c" / name for name in ("povundiri.h", "povundiri.c", "povundiri_status.hpp"))
 SOURCES = f"the tables of fault_texts, {STATUSES.name} and {NAMES.name}"
 HEAD = """\
@@ -31,7 +31,7 @@ HEAD = """\
 
 What each fault means, and what to do: what `persist_report explain NAME` prints. NAME may be in any case, and may be
 the constant of a status in C, such as `POVUNDIRI_REFUSED_NO_UNITS`. This page is made from the tables in
-`crates/fault_texts/src`, the statuses in `crates/persist_report/src/failure.rt`, and the names in `c/povundiri.c`: do
+`crates/fault_texts/src`, the statuses in `crates/report_streams/src/failure.rt`, and the names in `c/povundiri.c`: do
 not edit it, but these, and then run `tests/support/faults.py --write`.
 
 The line of a fault is its name. Some have more on it: `Image FAULT`, `Adopt FAULT`, `BadLine NUMBER`, `Refused NUMBER

@@ -22,7 +22,7 @@ LIST = ROOT / "crates.txt"
 READING = [
     "image_reader", "image_adoption", "reading_texts", "reading_sums", "sum_texts", "reading_overviews", "text_styles",
     "reading_shows", "recording_folders", "sum_commands", "persist_report_core", "segment_search", "segment_looks",
-    "segment_sizes", "size_texts", "fault_texts", "report_asks", "report_requests", "schedule",
+    "segment_sizes", "size_texts", "fault_texts", "report_asks", "report_requests", "report_streams", "schedule",
 ]
 MACHINE = ["segment_machine", "segment_invariant", "segment_promises"]
 

@@ -4,9 +4,9 @@ use Rattle.clap.specs.Words.{kind_of}
 use Rattle.report_asks.specs.declared.wrong.Wrong.{Wrong}
 use Rattle.report_requests.specs.Mistakes.{IsMistake, mistake_kind}
 use Rattle.persist_report_core.specs.declared.fault.CliFault.TheVariants.{NoMemory}
-use Rattle.persist_report.specs.Failure.{failure_status}
-use Rattle.persist_report.specs.declared.failure.Failure.{Failure}
-use Rattle.persist_report.specs.declared.failure.Failure.TheVariants as failed
+use Rattle.report_streams.specs.Failure.{failure_status}
+use Rattle.report_streams.specs.declared.failure.Failure.{Failure}
+use Rattle.report_streams.specs.declared.failure.Failure.TheVariants as failed
 use Rattle.persist_report.specs.declared.unmet.Unmet.{Unmet}
 use Rattle.persist_report.specs.declared.unmet.Unmet.TheVariants.{Usage, Failed}
 

@@ -3,19 +3,13 @@
 ghost use Rattle.std.specs.Prelude.{◌≡◌, false};
 ghost use Rattle.segment_image.specs.Watched.{has_failed};
 
-use crate::context::Context;
-use crate::failure::Failure;
-use crate::files::{end, open, open_out};
 use persist_report_core::CliFault;
 use report_requests::Nth;
+use report_streams::{Context, Failure, System, end, open, open_out};
 use segment_image::Watched;
 use segment_search::{SearchFault, extract};
 use std::alloc::Global;
-use std::fs::File;
 use std::io::{Read, Write};
-use std::random::RandomSource;
-use std::rt::Files;
-use std::time::Clock;
 
 // The fault of the program for a fault of a search.
 fn fault_of(fault: SearchFault) -> CliFault {
@@ -46,10 +40,12 @@ fn extract_both<E: Eprint, I: Read, W: Write>(
 
 /// Finds a segment in a file, writes its image to another, and to the error stream how many bytes come before it. The
 /// image takes the other file's place after that line. No copy is kept of what is read: it may be long.
-pub fn extract_file<
-    'a,
-    R: Files<File = File> + Clock + Input + Print + Eprint + RandomSource + AllocGlobal,
->(context: &Context<'_, R>, file: &'a str, out: &'a str, nth: Nth) -> Result<(), Failure> {
+pub fn extract_file<'a, R: System>(
+    context: &Context<'_, R>,
+    file: &'a str,
+    out: &'a str,
+    nth: Nth,
+) -> Result<(), Failure> {
     let mut reader = open(context, file, None)?;
     let mut image = open_out(context, out)?;
     let outcome = extract_both(context.rt, context.alloc(), &mut reader, nth, &mut image);

@@ -3,23 +3,16 @@
 ghost use Rattle.std.specs.Prelude.{◌≡◌, false};
 ghost use Rattle.segment_image.specs.Watched.{has_failed};
 
-use crate::context::Context;
-use crate::failure::Failure;
-use crate::files::open_out;
-use crate::noted::Stream;
 use crate::texts::end_text;
 use fault_texts::remedy_lines_of;
 use image_reader::{Reading, read};
 use persist_report_core::{CliFault, damage_of, image_in, read_input, write_and_flush};
 use reading_texts::{FamilyFault, Label, families_text};
 use report_asks::DASH;
+use report_streams::{Context, Failure, Stream, System, open_out};
 use segment_image::Watched;
 use std::alloc::Global;
-use std::fs::File;
 use std::io::Read;
-use std::random::RandomSource;
-use std::rt::Files;
-use std::time::Clock;
 
 // The text of an image with a family for each histogram, and the reading that it shows.
 #[derive(Drop)]
@@ -102,11 +95,7 @@ fn damage<R>(context: &Context<'_, R>, reading: &Reading) -> Result<(), CliFault
 /// Writes the metrics of the image in what a reader has left, a family for each histogram: to the file `to`, or to
 /// standard output if there is none. If the families of two histograms clash, nothing is written. If what was read is
 /// not whole and has to be, that is a fault, which comes after the text.
-pub fn write_families<
-    'a,
-    R: Files<File = File> + Clock + Print + RandomSource + AllocGlobal,
-    I: Read + Drop,
->(
+pub fn write_families<'a, R: System, I: Read + Drop>(
     context: &Context<'_, R>,
     mut reader: Stream<'a, I>,
     prefix: &str,

@@ -5,113 +5,21 @@
 ghost use Rattle.std.specs.Prelude.{◌≡◌, false, IfOk};
 ghost use Rattle.segment_image.specs.Watched.{has_failed};
 
-use crate::cause::Cause;
-use crate::context::Context;
-use crate::explaining::{FaultContext, failure_of, unopened, unopened_out};
-use crate::failure::Failure;
-use crate::incoming::Incoming;
 use crate::look::open_look;
-use crate::noted::{Noted, Stream};
-use crate::output::{Output, open_output};
-use crate::terminal::reads_terminal;
 use fault_texts::Origin;
 use image_reader::Reading;
 use persist_commands::{OpenGate, merge_files, resume_script, run_script};
 use persist_report_core::{CliFault, damage_of};
 use reading_shows::{Form, first_missing, write_text};
 use report_asks::{DASH, Workers};
+use report_streams::{
+    Context, Failure, Incoming, Stream, System, end, failed, open, open_out, reads_terminal,
+};
 use std::alloc::Global;
-use std::fs::File;
-use std::io::{Printer, Read};
-use std::random::RandomSource;
+use std::io::Read;
 use std::rt::Files;
 use std::sync::Wait;
 use std::thread::Threads;
-use std::time::Clock;
-use std::{fs, io};
-
-/// Opens a file that is there, to read it, or standard input for `-`. What is read is put into the copy, if there is
-/// one. On `Ok` the file has not failed.
-pub fn open<'a, R: Files + Input + AllocGlobal>(
-    context: &Context<'_, R>,
-    path: &'a str,
-    copy: Option<Vec<u8>>,
-) -> Result<Stream<'a, Incoming<R::File, R::Reader>>, Failure>
-    ensures { IfOk result (λ file. has_failed file ≡ false) }
-{
-    if path == DASH {
-        let input = Incoming::Standard(context.rt.reader());
-        return Ok(Noted::stream(input, Origin::Input, copy));
-    }
-    match fs::open(context.rt, path) {
-        Ok(file) => Ok(Noted::stream(Incoming::File(file), Origin::File(path), copy)),
-        Err(error) => Err(unopened(context, Cause::of(CliFault::Read, error), path)),
-    }
-}
-
-/// Opens the file that is written, or standard output for `-`. On `Ok` it has not failed.
-pub fn open_out<'a, 'r, R: Files<File = File> + Clock + Print + RandomSource + AllocGlobal>(
-    context: &Context<'r, R>,
-    path: &'a str,
-) -> Result<Stream<'a, Output<File, Printer<'r, R>>>, Failure>
-    ensures { IfOk result (λ file. has_failed file ≡ false) }
-{
-    if path == DASH {
-        let output = Output::Standard(io::writer(context.rt));
-        return Ok(Noted::stream(output, Origin::Output, None));
-    }
-    match open_output(context.rt, path) {
-        Ok(output) => Ok(Noted::stream(output, Origin::File(path), None)),
-        Err(why) => Err(unopened_out(context, why, path)),
-    }
-}
-
-/// Returns the failure of a fault. BASE, if there is one, is read before the input; `output` is where a write failed,
-/// and why.
-pub fn failed<'a, R: AllocGlobal, I>(
-    context: &Context<'_, R>,
-    fault: CliFault,
-    base: Option<&Noted<'a, I>>,
-    input: &Noted<'a, I>,
-    output: (Origin<'a>, Option<io::Error>),
-) -> Failure {
-    let last = match base {
-        Some(base) if !input.is_used() => base,
-        _ => input,
-    };
-    let (device, reason) = match &fault {
-        CliFault::Read => (last.origin(), last.reason()),
-        _ => output,
-    };
-    let known = FaultContext {
-        input: last.source(),
-        base: base.map(|base| base.source()),
-        device,
-        reason,
-    };
-    failure_of(context, fault, known)
-}
-
-/// Ends a command over files with this outcome: the image that it wrote takes its place, or is removed. BASE, if there
-/// is one, was read before the input; `reason` is why standard output failed.
-pub fn end<'a, R: Files<File = File> + AllocGlobal, I, P: Drop>(
-    context: &Context<'_, R>,
-    outcome: Result<(), CliFault>,
-    base: Option<&Noted<'a, I>>,
-    input: &Noted<'a, I>,
-    image: Noted<'a, Output<File, P>>,
-    reason: Option<io::Error>,
-) -> Result<(), Failure> {
-    let (out, written) = (image.origin(), image.reason());
-    let Err(cause) = image.into_inner().end(context.rt, outcome) else {
-        return Ok(());
-    };
-    let output = match reason {
-        Some(reason) => (Origin::Output, Some(reason)),
-        None => (out, cause.reason.or(written)),
-    };
-    Err(failed(context, cause.fault, base, input, output))
-}
 
 /// Returns what is wrong with a reading whose text was written: it is not whole, and has to be; or it lacks a histogram
 /// that is asked for by its name.
@@ -163,7 +71,7 @@ fn say_what_is_read<R: Files + Eprint>(rt: &R) {
 /// Opens the file of an image, or standard input if no file is named, or `-`; or a look at the file, if that is asked
 /// for. If no file is named and standard input is a terminal, a line on the error stream reports this. On `Ok` it has
 /// not failed.
-pub fn open_image<'a, R: Files<File = File> + Input + Eprint + AllocGlobal>(
+pub fn open_image<'a, R: System>(
     context: &Context<'_, R>,
     file: Option<&'a str>,
 ) -> Result<Stream<'a, Incoming<R::File, R::Reader>>, Failure>
@@ -181,7 +89,7 @@ pub fn open_image<'a, R: Files<File = File> + Input + Eprint + AllocGlobal>(
 /// Writes a form of the image in a file to standard output; of that on standard input if no file is named, or `-`. If
 /// no file is named and standard input is a terminal, a line on the error stream reports this. If what was read is not
 /// whole and has to be, or lacks a histogram that was named, that is a fault, which comes after the text.
-pub fn write_file<R: Files<File = File> + Input + Print + Eprint + AllocGlobal>(
+pub fn write_file<R: System>(
     context: &Context<'_, R>,
     form: Form<'_>,
     file: Option<&str>,
@@ -192,10 +100,7 @@ pub fn write_file<R: Files<File = File> + Input + Print + Eprint + AllocGlobal>(
 
 /// Runs the script in a file, and writes the image to another and its report to standard output. The image takes the
 /// other file's place after the report.
-pub fn run_file<
-    'a,
-    R: Files<File = File> + Clock + Input + Print + RandomSource + AllocGlobal + Threads + Wait,
->(
+pub fn run_file<'a, R: System + Threads + Wait>(
     context: &Context<'_, R>,
     script: &'a str,
     out: &'a str,
@@ -226,10 +131,7 @@ pub fn run_file<
 
 /// Continues from the image in a file and runs the script in another on it. Writes the new image to a third file and
 /// its report to standard output. The image takes the third file's place after the report.
-pub fn resume_file<
-    'a,
-    R: Files<File = File> + Clock + Input + Print + RandomSource + AllocGlobal + Threads + Wait,
->(
+pub fn resume_file<'a, R: System + Threads + Wait>(
     context: &Context<'_, R>,
     base: &'a str,
     script: &'a str,
@@ -262,10 +164,12 @@ pub fn resume_file<
 }
 
 /// Merges the images in two files into a new one, and writes it to a third.
-pub fn merge_files_into<
-    'a,
-    R: Files<File = File> + Clock + Input + Print + RandomSource + AllocGlobal,
->(context: &Context<'_, R>, base: &'a str, dead: &'a str, out: &'a str) -> Result<(), Failure> {
+pub fn merge_files_into<'a, R: System>(
+    context: &Context<'_, R>,
+    base: &'a str,
+    dead: &'a str,
+    out: &'a str,
+) -> Result<(), Failure> {
     let mut first = open(context, base, context.copy())?;
     let mut second = open(context, dead, context.copy())?;
     let mut image = open_out(context, out)?;

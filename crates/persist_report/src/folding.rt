@@ -6,13 +6,7 @@
 //!
 //! A segment that somebody records into has its lock, and stays. A fold waits for none.
 
-use crate::cause::Cause;
-use crate::context::Context;
-use crate::explaining::{remedies_of, unopened, unopened_out};
-use crate::failure::Failure;
 use crate::inputs::{Named, What};
-use crate::leftover::is_at;
-use crate::lock::take_lock;
 use crate::standing::{
     FOLD_LOCK, MARK, NEW_TOTALS, Segment, TOTALS, cause_of_read, id_in, path_in, segments_in,
     totals_from, totals_text_in,
@@ -21,8 +15,10 @@ use crate::sum_writing::input_failure;
 use crate::summing::tell_left;
 use image_reader::Reading;
 use persist_report_core::{CliFault, read_image, read_input};
-use reading_sums::SumsFault;
 use recording_folders::{fold_of, folded_totals, is_named, serial_of};
+use report_streams::{
+    Cause, Context, Failure, System, is_at, remedies_of, take_lock, unopened, unopened_out,
+};
 use segment_image::Watched;
 use std::alloc::{AllocError, Global};
 use std::fs::{File, OpenOptions, TryLockError};
@@ -30,7 +26,6 @@ use std::io::{ErrorKind, Write};
 use std::os::unix::fs::OpenOptionsExt;
 use std::path::PathBuf;
 use std::rt::Files;
-use std::time::Clock;
 use std::{fs, io};
 use sum_commands::{InputFault, Left};
 use sum_texts::{Totals, totals_text};
@@ -368,10 +363,7 @@ fn check_mark<R: Files + AllocGlobal>(
 }
 
 // Takes the lock of folds, which the file has until it is closed.
-fn lock_folds<R: Files<File = File> + Clock + AllocGlobal>(
-    context: &Context<'_, R>,
-    folder: &str,
-) -> Result<File, Failure> {
+fn lock_folds<R: System>(context: &Context<'_, R>, folder: &str) -> Result<File, Failure> {
     let path = path_in(context.alloc(), folder, FOLD_LOCK)?;
     let mut options = OpenOptions::new();
     options
@@ -391,10 +383,7 @@ fn lock_folds<R: Files<File = File> + Clock + AllocGlobal>(
 
 /// Adds the final segments of a recording's folder to its totals, and removes them. Those that cannot be read stay, and
 /// are reported: then it ends with `Left`. `Busy` comes if another fold is at work.
-pub fn fold_folder<R: Files<File = File> + Clock + Eprint + AllocGlobal>(
-    context: &Context<'_, R>,
-    folder: &str,
-) -> Result<(), Failure> {
+pub fn fold_folder<R: System>(context: &Context<'_, R>, folder: &str) -> Result<(), Failure> {
     check_mark(context, folder)?;
     let lock = lock_folds(context, folder)?;
     let work = fold_locked(context, folder)?;

@@ -1,14 +1,10 @@
 //! The inputs of a command that writes a text: files, lists of files and folders.
 
-use crate::cause::Cause;
-use crate::context::Context;
-use crate::explaining::unopened;
-use crate::failure::Failure;
-use crate::leftover::is_new_name;
 use crate::recorded::{Recorded, read_folder};
 use crate::standing::{is_recording, names_in, path_in};
 use persist_report_core::CliFault;
 use report_asks::{DASH, Inputs, Wrong};
+use report_streams::{Cause, Context, Failure, System, is_new_name, unopened};
 use std::alloc::AllocError;
 use std::fs::File;
 use std::rt::Files;
@@ -131,10 +127,7 @@ pub fn put_input<R: Files<File = File> + AllocGlobal>(
 }
 
 // The bytes of a list of files.
-fn list_bytes<R: Files<File = File> + Input + AllocGlobal>(
-    rt: &R,
-    list: &str,
-) -> io::Result<String> {
+fn list_bytes<R: System>(rt: &R, list: &str) -> io::Result<String> {
     if list == DASH {
         return io::read_to_string(rt.alloc(), rt.reader());
     }
@@ -156,7 +149,7 @@ fn put_lines<R: Files<File = File> + AllocGlobal>(
 }
 
 // Appends what the lines of a list name.
-fn put_list<R: Files<File = File> + Input + AllocGlobal>(
+fn put_list<R: System>(
     context: &Context<'_, R>,
     names: &mut Vec<Named>,
     list: &str,
@@ -211,7 +204,7 @@ fn put_named_files<R: Files<File = File> + AllocGlobal>(
 }
 
 // Appends what the list names, if there is one. Standard input may be named once, by these and the others together.
-fn put_listed_files<R: Files<File = File> + Input + AllocGlobal>(
+fn put_listed_files<R: System>(
     context: &Context<'_, R>,
     names: &mut Vec<Named>,
     list: Option<&str>,
@@ -223,7 +216,7 @@ fn put_listed_files<R: Files<File = File> + Input + AllocGlobal>(
 }
 
 // Appends the names of all inputs, in their order.
-fn put_names<R: Files<File = File> + Input + AllocGlobal>(
+fn put_names<R: System>(
     context: &Context<'_, R>,
     names: &mut Vec<Named>,
     inputs: &Inputs<'_>,
@@ -235,7 +228,7 @@ fn put_names<R: Files<File = File> + Input + AllocGlobal>(
 }
 
 /// Returns the names of all inputs, in their order. `Usage` comes if standard input is named twice.
-pub fn names_of<R: Files<File = File> + Input + AllocGlobal>(
+pub fn names_of<R: System>(
     context: &Context<'_, R>,
     inputs: &Inputs<'_>,
 ) -> Result<Vec<Named>, Failure> {

@@ -3,24 +3,16 @@
 ghost use Rattle.std.specs.Prelude.{◌≡◌, false, IfOk};
 ghost use Rattle.segment_image.specs.Watched.{has_failed};
 
-use crate::cause::Cause;
-use crate::context::Context;
-use crate::explaining::unopened;
-use crate::failure::Failure;
-use crate::files::{end, failed, open, open_out};
-use crate::incoming::Incoming;
-use crate::noted::{Noted, Stream};
-use crate::part::Part;
 use fault_texts::Origin;
 use persist_commands::look_file;
 use persist_report_core::CliFault;
 use report_asks::{DASH, Wrong};
+use report_streams::{
+    Cause, Context, Failure, Incoming, Noted, Part, Stream, System, end, failed, open, open_out,
+    unopened,
+};
 use std::collections::VecDeque;
 use std::fs;
-use std::fs::File;
-use std::random::RandomSource;
-use std::rt::Files;
-use std::time::Clock;
 
 // Of three inputs that are read one after the other, the one that was read last.
 fn last_used<'n, 'a, I>(
@@ -38,7 +30,7 @@ fn last_used<'n, 'a, I>(
 }
 
 // Opens a file to read it, or the segment in it that begins at a byte.
-fn open_at<'a, R: Files<File = File> + Input + AllocGlobal>(
+fn open_at<'a, R: System>(
     context: &Context<'_, R>,
     path: &'a str,
     at: Option<u64>,
@@ -61,7 +53,7 @@ fn open_at<'a, R: Files<File = File> + Input + AllocGlobal>(
 
 /// Looks at the segment in a file that is in use, which is read three times, and writes its image to another, or to
 /// standard output if none is named. If a byte is named, the segment begins there, as in the memory of a process.
-pub fn look_into<'a, R: Files<File = File> + Clock + Input + Print + RandomSource + AllocGlobal>(
+pub fn look_into<'a, R: System>(
     context: &Context<'_, R>,
     file: &'a str,
     at: Option<u64>,
@@ -84,10 +76,7 @@ pub fn look_into<'a, R: Files<File = File> + Clock + Input + Print + RandomSourc
 }
 
 /// Returns the bytes of the image of a look at the segment in a file, which is read three times.
-pub fn look_at<R: Files<File = File> + Input + AllocGlobal>(
-    context: &Context<'_, R>,
-    file: &str,
-) -> Result<VecDeque<u8>, Failure> {
+pub fn look_at<R: System>(context: &Context<'_, R>, file: &str) -> Result<VecDeque<u8>, Failure> {
     let mut first = open_at(context, file, context.at, None)?;
     let mut second = open_at(context, file, context.at, None)?;
     let mut third = open_at(context, file, context.at, context.copy())?;
@@ -112,7 +101,7 @@ pub fn look_at<R: Files<File = File> + Input + AllocGlobal>(
 
 /// Opens the image of a look at the segment in a file that is in use. On `Ok` it has not failed; `Usage` comes if no
 /// file is named, or `-`.
-pub fn open_look<'a, R: Files<File = File> + Input + AllocGlobal>(
+pub fn open_look<'a, R: System>(
     context: &Context<'_, R>,
     file: Option<&'a str>,
 ) -> Result<Stream<'a, Incoming<R::File, R::Reader>>, Failure>

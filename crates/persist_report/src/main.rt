@@ -5,23 +5,12 @@
 //! prints scales, and explains faults.
 #![tactic(auto)]
 
-mod cause;
-mod context;
-mod explaining;
 mod extracting;
-mod failure;
 mod families;
 mod files;
 mod folding;
-mod incoming;
 mod inputs;
-mod leftover;
-mod link_target;
-mod lock;
 mod look;
-mod noted;
-mod output;
-mod part;
 mod peeked;
 mod progress;
 mod recorded;
@@ -34,7 +23,6 @@ mod sources;
 mod standing;
 mod sum_writing;
 mod summing;
-mod terminal;
 mod texts;
 mod unmet;
 

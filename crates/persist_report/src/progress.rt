@@ -1,7 +1,7 @@
 //! The line that shows how far a sum is, if adding up takes long and the error stream is a terminal.
 
-use crate::terminal::tells_terminal;
 use reading_sums::{HistSum, Sums};
+use report_streams::tells_terminal;
 use std::fmt;
 use std::rt::Files;
 use std::time::{Clock, Duration, Instant};

@@ -11,16 +11,13 @@
 ghost use Rattle.std.specs.Prelude.{◌≡◌, IfOk, OnErr};
 ghost use Rattle.sum_commands.specs.Sources.{AddsSome};
 
-use crate::context::Context;
-use crate::explaining::{unopened, unopened_out};
-use crate::failure::Failure;
-use crate::lock::Unopened;
 use crate::standing::{Segment, cause_of_read, id_in, segments_in, totals_from, totals_text_in};
 use image_reader::Reading;
 use persist_commands::look_file;
 use persist_report_core::{CliFault, damage_of, read_image, read_input};
 use reading_sums::{Sums, SumsFault};
 use recording_folders::{is_named, serial_of, stands};
+use report_streams::{Context, Failure, Unopened, unopened, unopened_out};
 use segment_image::Watched;
 use std::alloc::{AllocError, Global};
 use std::collections::VecDeque;

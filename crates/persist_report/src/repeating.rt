@@ -1,8 +1,6 @@
 //! Texts of looks that are written again and again.
 
-use crate::context::Context;
-use crate::failure::Failure;
-use crate::files::{check, open_image, open_out};
+use crate::files::{check, open_image};
 use crate::texts::end_text;
 use fault_texts::is_terminal_at;
 use image_reader::Reading;
@@ -10,9 +8,7 @@ use jiff::Timestamp;
 use persist_report_core::CliFault;
 use reading_shows::{Choice, Form, Style, write_text};
 use report_asks::{DASH, Repeat};
-use std::fs::File;
-use std::random::RandomSource;
-use std::rt::Files;
+use report_streams::{Context, Failure, System, open_out};
 use std::time::{Clock, Duration};
 use std::{fmt, thread};
 
@@ -57,7 +53,7 @@ fn now<R: Clock>(rt: &R) -> Option<Timestamp> {
 
 /// Begins a text on standard output: a terminal is cleared, and elsewhere a line of the time comes before each text but
 /// the first. The one fault is `Write`.
-pub fn begin<R: Clock + Files + Print>(
+pub fn begin<R: System>(
     context: &Context<'_, R>,
     division: Division,
     is_first: bool,
@@ -101,10 +97,7 @@ fn form_since<'a>(shown: Shown<'a>, earlier: Option<&'a Reading>) -> Form<'a> {
 }
 
 // Writes the text of a look, and returns what was read; none if it failed, which is then the fault.
-fn show_look<
-    'a,
-    R: Files<File = File> + Clock + Input + Print + Eprint + RandomSource + AllocGlobal,
->(
+fn show_look<'a, R: System>(
     context: &Context<'_, R>,
     shown: Shown<'a>,
     earlier: Option<&Reading>,
@@ -131,9 +124,7 @@ fn show_look<
 
 /// Writes texts of looks, one after the other, each but the first with what was counted since the one before. The first
 /// fault ends it.
-pub fn show_again<
-    R: Files<File = File> + Clock + Input + Print + Eprint + RandomSource + AllocGlobal,
->(
+pub fn show_again<R: System>(
     context: &Context<'_, R>,
     shown: Shown<'_>,
     division: Division,

@@ -3,9 +3,7 @@
 ghost use Rattle.std.specs.Prelude.{IfErr};
 ghost use Rattle.persist_report.specs.Unmet.{UsageIsMistake};
 
-use crate::context::Context;
 use crate::extracting::extract_file;
-use crate::failure::Failure;
 use crate::files::{merge_files_into, resume_file, run_file, write_file};
 use crate::folding::fold_folder;
 use crate::inputs::is_of_many;
@@ -15,7 +13,6 @@ use crate::scales::print_scale;
 use crate::sizing::size_of_task;
 use crate::sources::source_of;
 use crate::sum_writing::Text;
-use crate::terminal::columns;
 use crate::texts::{write_export, write_inputs};
 use crate::unmet::Unmet;
 use fault_texts::{AllTexts, is_asked, nearest_name, texts_for};
@@ -23,12 +20,10 @@ use persist_report_core::CliFault;
 use reading_shows::{Choice, Form, ListStyle, Source, Style};
 use report_asks::{Inputs, Repeat, Wrong};
 use report_requests::{Request, Task, Unasked, check_dashes};
-use std::fs::File;
-use std::random::RandomSource;
-use std::rt::{Env, Files};
+use report_streams::{Context, Failure, System, columns};
+use std::rt::Env;
 use std::sync::Wait;
 use std::thread::Threads;
-use std::time::Clock;
 use std::{env, io};
 
 /// Does what the arguments ask for.
@@ -36,18 +31,7 @@ use std::{env, io};
 /// `Usage` comes if they ask for nothing that the program does, never for help, the version or if memory runs out;
 /// `Failed` if the request failed: with `NoMemory` also if memory ran out when the arguments were read, and with `Write`
 /// also if a help or version text could not be written.
-pub fn run<
-    R: Env
-        + Files<File = File>
-        + Clock
-        + Input
-        + Print
-        + Eprint
-        + RandomSource
-        + AllocGlobal
-        + Threads
-        + Wait,
->(rt: &R) -> Result<(), Unmet>
+pub fn run<R: System + Env + Threads + Wait>(rt: &R) -> Result<(), Unmet>
     ensures { IfErr result UsageIsMistake }
 {
     let words = match words(rt) {
@@ -73,10 +57,7 @@ pub fn run<
 }
 
 // What a command runs with, by its request.
-fn context_of<'r, R: Env + Files + AllocGlobal>(
-    rt: &'r R,
-    request: &Request<'_>,
-) -> Context<'r, R> {
+fn context_of<'r, R: System + Env>(rt: &'r R, request: &Request<'_>) -> Context<'r, R> {
     Context {
         rt,
         explains: request.explains || is_asked(rt),
@@ -151,17 +132,11 @@ fn form_of<'a>(
 }
 
 // Does what a task says, if it names `-` only where it may.
-fn meet<
-    R: Files<File = File>
-        + Clock
-        + Input
-        + Print
-        + Eprint
-        + RandomSource
-        + AllocGlobal
-        + Threads
-        + Wait,
->(context: &Context<'_, R>, task: &Task<'_>, inputs: &Inputs<'_>) -> Result<(), Failure> {
+fn meet<R: System + Threads + Wait>(
+    context: &Context<'_, R>,
+    task: &Task<'_>,
+    inputs: &Inputs<'_>,
+) -> Result<(), Failure> {
     check_dashes(task)?;
     match *task {
         Task::Report { has_rows_alone, to } => {
@@ -240,17 +215,7 @@ fn shown_by<'a>(task: &'a Task<'_>) -> Option<Shown<'a>> {
 }
 
 // Does what a task says, again and again.
-fn meet_again<
-    R: Files<File = File>
-        + Clock
-        + Input
-        + Print
-        + Eprint
-        + RandomSource
-        + AllocGlobal
-        + Threads
-        + Wait,
->(
+fn meet_again<R: System + Threads + Wait>(
     context: &Context<'_, R>,
     task: &Task<'_>,
     inputs: &Inputs<'_>,

@@ -1,13 +1,11 @@
 //! The command that prints the record of a histogram of a scale.
 
-use crate::context::Context;
-use crate::explaining::{FaultContext, failure_of};
-use crate::failure::Failure;
 use crate::scaling::custom_record_of;
 use bucket_ranges::{Spec, SpecFault, log_linear};
 use fault_texts::{Origin, Source, remedy_lines_of};
 use persist_report_core::{CliFault, write_and_flush};
 use report_requests::Scale;
+use report_streams::{Context, Failure, FaultContext, failure_of};
 use std::alloc::{AllocError, Global};
 
 // What the fault of a scale means, and what to do.

@@ -3,22 +3,17 @@
 ghost use Rattle.std.specs.Prelude.{◌≡◌, false};
 ghost use Rattle.segment_image.specs.Watched.{has_failed};
 
-use crate::context::Context;
-use crate::explaining::{FaultContext, failure_of};
-use crate::failure::Failure;
-use crate::files::open;
-use crate::noted::Stream;
 use bucket_ranges::limits::MAX_UNITS;
-use fault_texts::{Origin, Source};
+use fault_texts::Origin;
 use persist_report_core::{CliFault, Script, ScriptFault, read_script, write_and_flush};
 use report_asks::Wrong;
 use report_requests::SizeTask;
+use report_streams::{Context, Failure, FaultContext, Stream, System, failure_of, open};
 use segment_calls::Refusal;
 use segment_image::Watched;
 use size_texts::{Sizes, sizes_of, values_of};
 use std::alloc::{AllocError, Global};
 use std::io::{Read, Write};
-use std::rt::Files;
 
 // The words of a page if neither an option nor a script says how many.
 const USUAL_PAGE: u64 = 4096;
@@ -154,7 +149,7 @@ fn size_hists<R: Print + AllocGlobal>(
 }
 
 /// Says how large a segment has to be: for the script in a file, or for the histograms of options.
-pub fn size_of_task<R: Files + Input + Print + AllocGlobal>(
+pub fn size_of_task<R: System>(
     context: &Context<'_, R>,
     task: &SizeTask<'_>,
 ) -> Result<(), Failure> {

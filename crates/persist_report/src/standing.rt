@@ -1,13 +1,10 @@
 //! What is in a recording's folder. `docs/FORMAT.md` has the names.
 
-use crate::cause::Cause;
-use crate::context::Context;
-use crate::explaining::unopened;
-use crate::failure::Failure;
 use crate::sum_writing::input_failure;
 use persist_report_core::{CliFault, image_in};
 use reading_sums::Sums;
 use recording_folders::{FileKind, kind_of};
+use report_streams::{Cause, Context, Failure, unopened};
 use segment_image::layout::ID_WORD;
 use segment_image::push_words;
 use std::alloc::{AllocError, Global};

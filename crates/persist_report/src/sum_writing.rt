@@ -6,13 +6,8 @@ ghost use Rattle.image_reader.specs.Views.{histogram_view};
 ghost use Rattle.segment_image.specs.Watched.{has_failed};
 ghost use Rattle.reading_sums.specs.Whole.{IsWellFormed};
 
-use crate::context::Context;
-use crate::explaining::{FaultContext, failure_of, remedies_of};
-use crate::failure::Failure;
 use crate::families::clash_failure;
-use crate::files::open_out;
 use crate::inputs::{Named, names_of, put_input};
-use crate::noted::Stream;
 use crate::sources::source_of_sum;
 use crate::summing::{Reading, add_from, origin_of, path_of, sum_of_names, tell_left};
 use fault_texts::{Origin, Source};
@@ -25,14 +20,13 @@ use reading_shows::{
 use reading_sums::{MinusFault, Sums};
 use reading_texts::{FamilyFault, Label, export_text, families_text, table_text};
 use report_asks::{DASH, Inputs, Wrong};
+use report_streams::{
+    Context, Failure, FaultContext, Stream, System, failure_of, open_out, remedies_of,
+};
 use std::alloc::{AllocError, Global};
-use std::fs::File;
 use std::io::Read;
-use std::random::RandomSource;
-use std::rt::Files;
 use std::sync::Wait;
 use std::thread::Threads;
-use std::time::Clock;
 use sum_commands::{InputFault, InputKind, Left, Summed};
 use sum_texts::{Totals, report_of, totals_text};
 
@@ -106,7 +100,7 @@ fn minus_failure<R: AllocGlobal>(context: &Context<'_, R>, fault: MinusFault) ->
 }
 
 // The sum less that of an earlier file or folder, each of whose inputs has to be read.
-fn less_earlier<R: Files<File = File> + Clock + Input + Eprint + AllocGlobal + Threads + Wait>(
+fn less_earlier<R: System + Threads + Wait>(
     context: &Context<'_, R>,
     sums: Sums,
     earlier: &str,
@@ -255,7 +249,7 @@ fn make_composed<R: AllocGlobal>(
 }
 
 // The text of the sum of inputs by their names.
-fn compose<R: Files<File = File> + Clock + Input + Eprint + AllocGlobal + Threads + Wait>(
+fn compose<R: System + Threads + Wait>(
     context: &Context<'_, R>,
     inputs: &Inputs<'_>,
     names: &[Named],
@@ -296,7 +290,7 @@ fn compose<R: Files<File = File> + Clock + Input + Eprint + AllocGlobal + Thread
 }
 
 // Writes a text to a file, or to standard output if there is none, and then returns what is wrong with what was read.
-fn write_composed<R: Files<File = File> + Clock + Print + RandomSource + AllocGlobal>(
+fn write_composed<R: System>(
     context: &Context<'_, R>,
     composed: Composed,
     to: Option<&str>,
@@ -322,17 +316,7 @@ fn write_composed<R: Files<File = File> + Clock + Print + RandomSource + AllocGl
 
 /// Writes a text of the sum of inputs: to the file `to`, or to standard output if there is none. Inputs that cannot be
 /// read are reported and left out, or the first of them ends it.
-pub fn write_sum<
-    R: Files<File = File>
-        + Clock
-        + Input
-        + Print
-        + Eprint
-        + RandomSource
-        + AllocGlobal
-        + Threads
-        + Wait,
->(
+pub fn write_sum<R: System + Threads + Wait>(
     context: &Context<'_, R>,
     inputs: &Inputs<'_>,
     text: Text<'_>,
@@ -352,10 +336,7 @@ fn source_in<'a>(text: Text<'a>) -> TextSource<'a> {
 }
 
 /// Writes a text of the totals that a reader has left, as that of a sum.
-pub fn write_totals<
-    R: Files<File = File> + Clock + Print + RandomSource + AllocGlobal,
-    I: Read + Drop,
->(
+pub fn write_totals<R: System, I: Read + Drop>(
     context: &Context<'_, R>,
     text: Text<'_>,
     mut reader: Stream<'_, I>,

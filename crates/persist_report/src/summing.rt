@@ -4,9 +4,6 @@ ghost use Rattle.std.specs.Prelude.{◌≡◌, false, length, IfOk, OnErr, ⊤};
 ghost use Rattle.segment_image.specs.Watched.{has_failed};
 ghost use Rattle.sum_commands.specs.Sources.{AddsSome, IsSumOfAllInputs};
 
-use crate::context::Context;
-use crate::failure::Failure;
-use crate::incoming::Incoming;
 use crate::inputs::{Named, What};
 use crate::look::look_at;
 use crate::peeked::Peeked;
@@ -16,6 +13,7 @@ use fault_texts::Origin;
 use persist_report_core::{CliFault, read_input};
 use reading_sums::Sums;
 use report_asks::DASH;
+use report_streams::{Context, Failure, Incoming, System};
 use segment_image::{Watched, read_bytes};
 use std::alloc::Global;
 use std::fs::File;
@@ -23,7 +21,6 @@ use std::io::Read;
 use std::rt::Files;
 use std::sync::Wait;
 use std::thread::Threads;
-use std::time::Clock;
 use std::{fmt, fs};
 use sum_commands::{
     InputFault, InputKind, Left, Manner, OpenInput, Source, Summed, add_image, add_totals,
@@ -95,7 +92,7 @@ fn fault_of_look(failure: Failure) -> CliFault {
 }
 
 // Adds the look at a file to a sum. Returns whether it is damaged.
-fn add_look<R: Files<File = File> + Input + AllocGlobal>(
+fn add_look<R: System>(
     context: &Context<'_, R>,
     sums: &mut Sums,
     path: &str,
@@ -112,7 +109,7 @@ fn add_look<R: Files<File = File> + Input + AllocGlobal>(
 }
 
 // Adds an input to a sum. Returns whether it is damaged.
-fn add_named<R: Files<File = File> + Input + AllocGlobal>(
+fn add_named<R: System>(
     context: &Context<'_, R>,
     sums: &mut Sums,
     name: &Named,
@@ -208,7 +205,7 @@ fn is_regular<R: Files>(rt: &R, path: &str) -> bool {
     }
 }
 
-impl<R: Files<File = File> + Input + AllocGlobal> NamedInputs<'_, '_, R> {
+impl<R: System> NamedInputs<'_, '_, R> {
     // Adds the input at a place to a sum. Returns whether it is damaged.
     fn add(&self, sums: &mut Sums, place: usize) -> Result<bool, InputFault>
         ensures added { IfOk result (λ is_damaged. AddsSome is_damaged sums.old sums.new) }
@@ -222,7 +219,7 @@ impl<R: Files<File = File> + Input + AllocGlobal> NamedInputs<'_, '_, R> {
     }
 }
 
-impl<R: Files<File = File> + Input + AllocGlobal> Source for NamedInputs<'_, '_, R> {
+impl<R: System> Source for NamedInputs<'_, '_, R> {
     ghost use Rattle.std.specs.Prelude.{⊤};
 
     type Opened = OpenedFile;
@@ -269,7 +266,7 @@ pub struct Reading {
 /// if it is strict. The result is the same for any number of workers. Nothing is known of what is in the inputs, so
 /// this promises how many were reached and which were left out [sum]; that each counts once is what `sum_of_inputs`
 /// promises for any source. If it takes long and the error stream is a terminal, a line there shows how far it is.
-pub fn sum_of_names<R: Files<File = File> + Clock + Input + Eprint + AllocGlobal + Threads + Wait>(
+pub fn sum_of_names<R: System + Threads + Wait>(
     context: &Context<'_, R>,
     names: &[Named],
     how: Reading,

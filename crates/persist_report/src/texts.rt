@@ -4,29 +4,24 @@
 ghost use Rattle.std.specs.Prelude.{◌≡◌, false};
 ghost use Rattle.segment_image.specs.Watched.{has_failed};
 
-use crate::cause::Cause;
-use crate::context::Context;
-use crate::explaining::{FaultContext, failure_of};
-use crate::failure::Failure;
 use crate::families::write_families;
-use crate::files::{check, open_image, open_out, write_from};
+use crate::files::{check, open_image, write_from};
 use crate::inputs::is_of_many;
-use crate::noted::{Noted, Stream};
-use crate::output::Output;
 use crate::peeked::Peeked;
 use crate::sum_writing::{Text, write_sum, write_totals};
 use persist_report_core::CliFault;
 use reading_shows::{Form, write_text};
 use reading_texts::{Label, are_line_labels, is_prefix};
 use report_asks::{Inputs, Wrong};
+use report_streams::{
+    Cause, Context, Failure, FaultContext, Noted, Output, Stream, System, failure_of, open_out,
+};
 use std::alloc::{AllocError, Global};
 use std::fs::File;
 use std::io::Read;
-use std::random::RandomSource;
 use std::rt::Files;
 use std::sync::Wait;
 use std::thread::Threads;
-use std::time::Clock;
 use sum_commands::InputKind;
 
 /// Ends the output of a text with how its writing ended, and what is wrong with what was read: a file is replaced if
@@ -60,7 +55,7 @@ pub fn end_text<'a, R: Files<File = File> + AllocGlobal, I: Drop, P: Drop>(
 
 // Writes a form of what a reader has left to a file, which is replaced when the text is complete, and then sees what is
 // wrong with what was read.
-fn write_to<'a, R: Files<File = File> + Clock + Print + RandomSource + AllocGlobal, I: Read + Drop>(
+fn write_to<'a, R: System, I: Read + Drop>(
     context: &Context<'_, R>,
     form: Form<'_>,
     mut reader: Stream<'a, I>,
@@ -82,18 +77,7 @@ fn write_to<'a, R: Files<File = File> + Clock + Print + RandomSource + AllocGlob
 /// Writes a text of the one image that is named, or of that on standard input if no file is named, or `-`, or of the
 /// sum of all inputs: to the file `to`, or to standard output if there is none. If no file is named and standard input
 /// is a terminal, a line on the error stream reports this. What is wrong with what was read comes after the text.
-pub fn write_inputs<
-    'a,
-    R: Files<File = File>
-        + Clock
-        + Input
-        + Print
-        + Eprint
-        + RandomSource
-        + AllocGlobal
-        + Threads
-        + Wait,
->(
+pub fn write_inputs<'a, R: System + Threads + Wait>(
     context: &Context<'_, R>,
     inputs: &Inputs<'a>,
     text: Text<'_>,
@@ -135,18 +119,7 @@ fn labels_of<'a>(alloc: Global, words: &[&'a str]) -> Result<Option<Vec<Label<'a
 
 /// Writes the metrics of an image, if their names may begin with the prefix, and all lines may have these labels, each
 /// given as KEY=VALUE; with a family for each histogram if that is asked for.
-pub fn write_export<
-    'a,
-    R: Files<File = File>
-        + Clock
-        + Input
-        + Print
-        + Eprint
-        + RandomSource
-        + AllocGlobal
-        + Threads
-        + Wait,
->(
+pub fn write_export<'a, R: System + Threads + Wait>(
     context: &Context<'_, R>,
     inputs: &Inputs<'a>,
     prefix: &str,

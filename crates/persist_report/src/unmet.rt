@@ -2,12 +2,12 @@
 
 ghost use Rattle.std.specs.Prelude.{◌≡◌};
 ghost use Rattle.persist_report.specs.Unmet.{IsNoUsage, IsToldAs, UsageIsMistake, unmet_status};
-ghost use Rattle.persist_report.specs.declared.failure.Failure.TheVariants.{Usage};
+ghost use Rattle.report_streams.specs.declared.failure.Failure.TheVariants.{Usage};
 ghost use Rattle.report_asks.specs.declared.wrong.Wrong.{Wrong};
 
-use crate::failure::Failure;
 use persist_report_core::CliFault;
 use report_requests::error_of;
+use report_streams::Failure;
 use std::alloc::Global;
 use std::fmt;
 

@@ -16,6 +16,7 @@ use crate::cause::Cause;
 use crate::leftover::{PREFIX, is_at, tidy};
 use crate::link_target::{end_of_links, has_name};
 use crate::lock::{Unopened, take_lock};
+use crate::system::System;
 use persist_report_core::CliFault;
 use std::alloc::AllocError;
 use std::fs::{File, OpenFile, OpenOptions, Permissions, TryLockError};
@@ -24,7 +25,6 @@ use std::os::unix::fs::OpenOptionsExt;
 use std::path::PathBuf;
 use std::random::RandomSource;
 use std::rt::Files;
-use std::time::Clock;
 use std::{fs, io};
 
 // How many names are tried for a new file. They are random, so that two hardly ever clash.
@@ -130,10 +130,7 @@ fn rename<R: Files>(rt: &R, new: &PathBuf, out: &PathBuf, stood: bool) -> Result
 ///
 /// `Busy` if another process has had the lock of OUT for 100 ms. `Write` if OUT cannot be written, or no new file can
 /// be made in its folder.
-pub fn open_output<P: Drop, R: Files<File = File> + Clock + RandomSource + AllocGlobal>(
-    rt: &R,
-    out: &str,
-) -> Result<Output<File, P>, Unopened> {
+pub fn open_output<P: Drop, R: System>(rt: &R, out: &str) -> Result<Output<File, P>, Unopened> {
     for _ in 0..MOST_OPENINGS {
         let opened = try_output(rt, out)?;
         if let Some(output) = opened {
@@ -144,10 +141,7 @@ pub fn open_output<P: Drop, R: Files<File = File> + Clock + RandomSource + Alloc
 }
 
 // The same; none if another file took the name of the one that was opened before it was locked.
-fn try_output<P: Drop, R: Files<File = File> + Clock + RandomSource + AllocGlobal>(
-    rt: &R,
-    out: &str,
-) -> Result<Option<Output<File, P>>, Unopened> {
+fn try_output<P: Drop, R: System>(rt: &R, out: &str) -> Result<Option<Output<File, P>>, Unopened> {
     match OpenOptions::new().write(true).open(rt, out) {
         Ok(file) => open_for(rt, out, file),
         Err(error) if error.kind() == ErrorKind::NotFound => match end_of_links(rt, out)? {
@@ -159,7 +153,7 @@ fn try_output<P: Drop, R: Files<File = File> + Clock + RandomSource + AllocGloba
 }
 
 // The output if OUT is there, as this open file.
-fn open_for<P: Drop, R: Files<File = File> + Clock + RandomSource + AllocGlobal>(
+fn open_for<P: Drop, R: System>(
     rt: &R,
     out: &str,
     file: File,
@@ -183,7 +177,7 @@ fn open_for<P: Drop, R: Files<File = File> + Clock + RandomSource + AllocGlobal>
 }
 
 // A new file in the folder of `out`, with the permissions of the old one if there is one.
-fn create_beside<P: Drop, R: Files<File = File> + RandomSource + AllocGlobal>(
+fn create_beside<P: Drop, R: System>(
     rt: &R,
     out: PathBuf,
     old: Option<(File, Permissions)>,
@@ -219,7 +213,7 @@ fn remove<R: Files>(rt: &R, new: &PathBuf) {
 }
 
 // A new file in the folder of `out`, and its path. It is locked, so that no other run takes it for one that was left.
-fn create_new<R: Files<File = File> + RandomSource + AllocGlobal>(
+fn create_new<R: System>(
     rt: &R,
     out: &PathBuf,
     is_private: bool,

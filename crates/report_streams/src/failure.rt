@@ -1,8 +1,8 @@
 //! Why the program did not do what it was asked to, and its exit status then.
 
 ghost use Rattle.std.specs.Prelude.{◌≡◌};
-ghost use Rattle.persist_report.specs.Failure.{failure_status, fault_status, input_status};
-ghost use Rattle.persist_report.specs.declared.failure.Failure.TheVariants.{Fault, Usage};
+ghost use Rattle.report_streams.specs.Failure.{failure_status, fault_status, input_status};
+ghost use Rattle.report_streams.specs.declared.failure.Failure.TheVariants.{Fault, Usage};
 ghost use Rattle.persist_report_core.specs.declared.fault.CliFault.TheVariants.{NoMemory};
 
 use bucket_ranges::SpecFault;

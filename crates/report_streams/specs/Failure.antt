@@ -4,10 +4,10 @@ use Rattle.persist_report_core.specs.declared.fault.CliFault.{CliFault}
 use Rattle.sum_commands.specs.declared.fault.InputFault.{InputFault}
 use Rattle.sum_commands.specs.declared.fault.InputFault.TheVariants as of_input
 use Rattle.persist_report_core.specs.declared.fault.CliFault.TheVariants.{Read, Write, TooLong, NotWords, Image, BadLine, Refused, Gate, Merge, NoThread, NoMemory, Adopt, NoSegment, NoHistogram, Bad, Stopped, Changed}
-use Rattle.persist_report.specs.declared.failure.Failure.{Failure}
-use Rattle.persist_report.specs.declared.failure.Failure.TheVariants.{Usage, Fault, Explained, Busy, Scale, Clash, Input, Since, TooMany, NotWhole, Left}
-use Rattle.persist_report.specs.declared.lock.Unopened.{Unopened}
-use Rattle.persist_report.specs.declared.lock.Unopened.TheVariants as unopened
+use Rattle.report_streams.specs.declared.failure.Failure.{Failure}
+use Rattle.report_streams.specs.declared.failure.Failure.TheVariants.{Usage, Fault, Explained, Busy, Scale, Clash, Input, Since, TooMany, NotWhole, Left}
+use Rattle.report_streams.specs.declared.lock.Unopened.{Unopened}
+use Rattle.report_streams.specs.declared.lock.Unopened.TheVariants as unopened
 
 -- the status of a fault: 3 if the bytes are no image or no script, what they ask for is refused, or what they should have is
 -- not there; 4 if a device failed; 5 if a thread could not be started or memory ran out

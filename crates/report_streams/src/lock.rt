@@ -1,7 +1,7 @@
 //! The lock of the file that a command replaces.
 
 ghost use Rattle.std.specs.Prelude.{IfErr};
-ghost use Rattle.persist_report.specs.Failure.{IsBusyOrWrite};
+ghost use Rattle.report_streams.specs.Failure.{IsBusyOrWrite};
 
 use crate::cause::Cause;
 use std::fs::{File, TryLockError};
@@ -24,7 +24,7 @@ pub enum Unopened {
 
 impl From<Cause> for Unopened {
     ghost use Rattle.std.specs.Prelude.{◌≡◌};
-    ghost use Rattle.persist_report.specs.declared.lock.Unopened.TheVariants.{Failed};
+    ghost use Rattle.report_streams.specs.declared.lock.Unopened.TheVariants.{Failed};
 
     ghost from_gives = { λ cause why. why ≡ Failed cause };
 

@@ -299,7 +299,14 @@ void most_recorders() {
     HOLDS(outstanding == 0);
 }
 
-// Threads that go on in the next memories, each when it finds no room: what they counted is there.
+// The units of a name; none of one that found no room.
+std::uint64_t units_of(const std::map<std::string, std::pair<std::uint64_t, std::int64_t>>& totals, const std::string& name) {
+    const auto found = totals.find(name);
+    return found != totals.end() ? found->second.first : 0;
+}
+
+// Threads that go on in the next memories, each when it finds no room: what they counted is there. One that comes late may find room for
+// nothing.
 void threads() {
     constexpr int kThreads = 4, kValues = 60, kRounds = 200;
     const std::vector<SharedMemory> memories = made(povundiri::shape(1024, 256), 3);
@@ -321,7 +328,7 @@ void threads() {
     std::uint64_t all = 0;
     for (int number = 0; number < kThreads; ++number) {
         const std::uint64_t of_thread = counted[static_cast<std::size_t>(number)];
-        HOLDS(totals.at("own_" + std::to_string(number)).first == 3 * (of_thread % 1000));
+        HOLDS(units_of(totals, "own_" + std::to_string(number)) == 3 * (of_thread % 1000));
         all += of_thread / 1000;
     }
     HOLDS(totals.at("all").first == all && all > 0 && report_of(memories[1]).find("total") != std::string::npos);

@@ -19,6 +19,8 @@ HEAD = """\
 # The edits of this folder, each with the sum of its text, and the function and the goal of it that refused the edit.
 # Made by: tests/edits {crate}. The sum of the crate, and of what those below it state: {sum}
 """
+FUNCTION = re.compile(r'\s*(?:\w+(?:\([a-z]+\))? |"C" )*fn (\w+)')
+IMPL = re.compile(r"impl(?:<.*?>)? (?:(?P<trait>\w+)(?:<(?P<of>\w+).*>)? for )?(?P<type>\w+)")
 FIRST = re.compile(r"# .*\n# .*: (\w{16})\n")
 LINE = re.compile(r"(\S+\.edit) (\w{16}) (\S+) (\S+)\n")
 
@@ -49,6 +51,27 @@ def edits_of(crate: str, root: pathlib.Path = ROOT) -> list[pathlib.Path]:
 
 def sum_of(edit: pathlib.Path) -> str:
     return sources.digest(edit.read_text(encoding="utf-8"))
+
+
+def function_of(crate: str, edit: pathlib.Path, root: pathlib.Path = ROOT) -> str:
+    """The path of the function that an edit changes first: the last one that begins before the text that it takes."""
+    text = edit.read_text(encoding="utf-8")
+    file, old = (re.search(rf"^{word}: ?(.*)$", text, re.MULTILINE) for word in ("file", "old"))
+    if file is None or old is None:
+        raise ValueError(f"{edit} names no file, or no text of it")
+    before = (root / "crates" / crate / file[1]).read_text(encoding="utf-8").split(old[1])[0].splitlines() + [old[1]]
+    parts = pathlib.PurePath(file[1]).with_suffix("").parts[1:]
+    modules = [part for part in parts if part not in ("lib", "main", "mod")]
+    owner: list[str] = []
+    function = ""
+    for line in before:
+        if line == "}":
+            owner = []
+        elif begun := IMPL.match(line):
+            owner = ["".join(word or "" for word in begun.group("type", "trait", "of"))]
+        elif begun := FUNCTION.match(line):
+            function = "::".join([crate, *modules, *owner, begun[1]])
+    return function
 
 
 def recorded(crate: str, root: pathlib.Path = ROOT) -> Record:

@@ -11,6 +11,7 @@ import pathlib
 import re
 import shutil
 import tempfile
+import threading
 from collections.abc import Iterable, Sequence
 from typing import Any, NamedTuple
 
@@ -41,40 +42,41 @@ class Kit:
     def __init__(self) -> None:
         self.script = toolchain.script()
         self.said: dict[str, str] = {}
+        # The one function that the checks of this thread are of, if they are.
+        self.alone = threading.local()
         self.checked = self.script.checked
         self.script.checked = self.record
         # Its first call has to be on the main thread.
         self.script.rtlib.guarded()
 
-    def record(self, crate: Any, *given: Any) -> Any:
-        ran = self.checked(crate, *given)
+    def record(self, crate: Any, texts: Any, flags: Any, *kept: Any) -> Any:
+        function = getattr(self.alone, "function", None)
+        if function is None:
+            ran = self.checked(crate, texts, flags, *kept)
+        else:
+            ran = self.checked(crate, texts, [*flags, "--only", function], None)
+            ran.stdout = NOT_ALL.sub("logic=not-proved\n", ran.stdout)
         self.said[crate.name] = ran.stdout
         return ran
 
     def tried_alone(self, crate: Any, edit: pathlib.Path, function: str, jobs: int) -> Outcome:
         """Tries an edit by a check of this function alone and those that it calls, from nothing. The last line of such
         a check counts functions, so `must_fail` is given that of a check that refuses the crate."""
-        flags = ["--jobs", str(jobs), "--only", function]
-        checked = self.script.checked
-
-        def alone(crate: Any, texts: Any, _flags: Any, kept: None) -> Any:
-            ran = checked(crate, texts, flags, kept)
-            ran.stdout = NOT_ALL.sub("logic=not-proved\n", ran.stdout)
-            return ran
-
-        self.script.checked = alone
+        self.alone.function = function
         try:
-            return self.tried(crate, edit, None)
+            return self.tried(crate, edit, None, ["--jobs", str(jobs)])
         finally:
-            self.script.checked = checked
+            self.alone.function = None
 
     def is_proved(self, crate: Any, kept: str) -> bool:
         """Whether the crate itself is proved over what is kept in a folder."""
         return not self.checked(crate, {}, ONE_JOB, kept).returncode
 
-    def tried(self, crate: Any, edit: pathlib.Path, kept: str | None) -> Outcome:
+    def tried(
+        self, crate: Any, edit: pathlib.Path, kept: str | None, flags: Sequence[str] = ONE_JOB
+    ) -> Outcome:
         """Tries an edit, over what is kept in a folder or from nothing, and says what came of it."""
-        is_refused, text = self.script.must_fail(crate, str(edit), ONE_JOB, kept)
+        is_refused, text = self.script.must_fail(crate, str(edit), [*flags], kept)
         goal = refusals.refused_by(self.said[crate.name]) if is_refused else None
         if goal is not None and goal.is_of_contract():
             say(f"{crate.name}/{edit.name}: refused by {goal.function} {goal.name}")
@@ -125,22 +127,34 @@ def tried(kit: Kit, crate: Any, chosen: Sequence[pathlib.Path]) -> list[Outcome]
     return [one if is_sound and one.is_refused else kit.tried(crate, edit, None) for edit, one in zip(chosen, outcomes)]
 
 
+def tried_apart(kit: Kit, crate: Any, chosen: Sequence[pathlib.Path]) -> list[Outcome] | str:
+    """What came of each edit by a check of one function: the one that refused it the last time, or that it changes."""
+    record = edits.recorded(crate.name).edits
+    outcomes = []
+    for edit in chosen:
+        was = record.get(edit.name)
+        function = was.function if was else edits.function_of(crate.name, edit)
+        outcomes.append(kit.tried_alone(crate, edit, function, 1))
+    return outcomes
+
+
 class Work(NamedTuple):
-    """A crate, its sum, and which of its edits are to be tried."""
+    """A crate, its sum, which of its edits are to be tried, and whether each by a check of one function alone."""
 
     crate: Any
     sum: str
     chosen: list[pathlib.Path]
+    is_apart: bool
 
 
-def work_of(names: Iterable[str], only_changed: bool) -> list[Work]:
+def work_of(names: Iterable[str], only_changed: bool, is_apart: bool) -> list[Work]:
     """What is to be done for these crates, the longest first."""
     known = {crate.name: crate for crate in toolchain.crates(str(ROOT / "crates"))}
     found = []
     for name in names:
         now = sources.sum_of(name)
         chosen = edits.changed(name, now) if only_changed else edits.edits_of(name)
-        found.append(Work(known[name], now, chosen))
+        found.append(Work(known[name], now, chosen, is_apart))
     return sorted(found, key=lambda work: -len(work.chosen) * int(work.crate.count(rb"\n")))
 
 
@@ -171,8 +185,9 @@ def came_of(kit: Kit, libraries: Libraries, work: Work) -> list[Outcome] | str:
     """What came of the edits that are to be tried, or what is wrong with their crate or one below it."""
     if not work.chosen:
         return []
-    wrong = libraries.wrong_below(work.crate)
-    return tried(kit, work.crate, work.chosen) if wrong is None else wrong
+    if (wrong := libraries.wrong_below(work.crate)) is not None:
+        return wrong
+    return (tried_apart if work.is_apart else tried)(kit, work.crate, work.chosen)
 
 
 def done(kit: Kit, libraries: Libraries, work: Work) -> tuple[int, int]:
@@ -192,12 +207,12 @@ def untouched(work: Work) -> dict[str, edits.Tried]:
     return {edit: one for edit, one in record.edits.items() if edit in names and record.sum == work.sum}
 
 
-def run(names: Sequence[str], only_changed: bool) -> int:
+def run(names: Sequence[str], only_changed: bool, is_apart: bool = False) -> int:
     """Tries the edits of these crates; the status."""
     kit = Kit()
     rtlib = kit.script.rtlib
     rtlib.Crate.stamp = functools.cache(rtlib.Crate.stamp)
-    listed = work_of(names, only_changed)
+    listed = work_of(names, only_changed, is_apart)
     crates = [work.crate for work in listed if work.chosen]
     if not crates:
         say("nothing has changed since each edit was tried")

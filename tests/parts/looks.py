@@ -2,8 +2,8 @@
 
 Each look gets three copies: those of worked looks (worked_looks.py), and forged ones of both versions and any length,
 and mapped files too. For this the program is traced: before it reads an open file for the first time, the next copy is
-put into it. So are the looks of `show --live --every`, of which each text but the first says what came since the look
-before, beside a plain renderer, plain_show.py.
+put into it. So are the looks of `show --live --every`, of which each text but the first says what came since the text
+before, beside a plain renderer, plain_show.py, and those of sums (plain_sums.py).
 """
 
 from __future__ import annotations
@@ -17,13 +17,14 @@ import pathlib
 import pty
 import random
 import re
+import shutil
 import subprocess
 import tempfile
 from collections.abc import Iterator, Sequence
 from typing import Any
 
 from parts import known
-from support import forge, layout, plain_look, plain_reader, plain_show, tracer, worked_looks
+from support import forge, layout, plain_look, plain_reader, plain_show, plain_sums, tracer, worked_looks
 from support.layout import HISTOGRAM, ID, REDUNDANT
 from support.program import EXAMPLE, ROOT, Answer, Case, Word, answer, content, difference, fault, untried
 
@@ -247,12 +248,18 @@ def repeated(program: pathlib.Path, closed: pathlib.Path, look: bytes, folder: p
     """With `--every` a text comes again: below a line of the time, or in the file, which has the last."""
     again = ["--live", "--every", "1", "--count", "2"]
     second = plain_show.text_of(look, since=look)
-    for words, mark in ((["show"], b""), (["show", "--list"], b""), (["export"], b"# ")):
+    forms: list[tuple[list[str], list[str], bytes]] = [
+        (["show"], [], b""),
+        (["show"], ["--also"], b""),
+        (["show", "--list"], [], b""),
+        (["export"], [], b"# "),
+    ]
+    for words, by, mark in forms:
         text = answer(program, words, look).output
-        came = answer(program, [*words, str(closed), *again])
+        came = answer(program, [*words, *by, str(closed), *again])
         form = re.escape(text) + mark + TIME + re.escape(second if words == ["show"] else text)
         right = (came.error, came.status) == (b"", 0) and re.fullmatch(form, came.output)
-        yield f"{' '.join(words)} --every", None if right else str(came)
+        yield f"{' '.join([*words, *by])} --every", None if right else str(came)
     out = folder / "metrics"
     wanted = answer(program, ["export"], look).output
     came = answer(program, ["export", str(closed), *again, "--to", str(out)])
@@ -270,16 +277,22 @@ def repeated(program: pathlib.Path, closed: pathlib.Path, look: bytes, folder: p
 
 
 def shown_again(
-    program: pathlib.Path, folder: pathlib.Path, copies: Sequence[bytes], words: Sequence[Word]
+    program: pathlib.Path,
+    folder: pathlib.Path,
+    copies: Sequence[bytes],
+    words: Sequence[Word],
+    named: Sequence[Word] = (),
 ) -> tuple[list[bytes], Answer]:
-    """The texts of looks at a file that has one copy after the other, without the lines of the time, and the answer."""
+    """The texts of looks at a file that has one copy after the other, without the lines of the time, and the answer. If
+    files or folders are named, they are shown, and the file is one of them: then its first bytes are read before."""
     file = folder / "changing"
     file.write_bytes(b"")
+    reads = 4 if named else 3
     change = Following(
-        SLEEPS, at=0, lasting=True, error=0, path=file, copies=[copy for copy in copies for _ in range(3)]
+        SLEEPS, at=0, lasting=True, error=0, path=file, copies=[copy for copy in copies for _ in range(reads)]
     )
     again = ["--live", "--every", "60", "--count", str(len(copies))]
-    came = tracer.answer(program, ["show", file, *again, *words], change)
+    came = tracer.answer(program, ["show", *(named or [file]), *again, *words], change)
     return re.split(TIME, came.output), came
 
 
@@ -372,6 +385,29 @@ def chains(program: pathlib.Path, folder: pathlib.Path, seed: int | str) -> Iter
         yield f"chain {number} of seed {seed}, {words}", wrong
 
 
+def sums_again(program: pathlib.Path, top: pathlib.Path, closed: pathlib.Path, seed: int | str) -> Iterator[Case]:
+    """What came since the text before, of sums: of two files and of a folder, of which one file changes. Where a bucket
+    has fewer units than before, nothing came, and no round ends the command."""
+    folder = top / "folder"
+    folder.mkdir()
+    still = folder / "still"
+    shutil.copy(closed, still)
+    file = folder / "changing"
+    copies = scripted(program, top, random.Random(f"sums {seed}"))
+    chosen = [copies[at] for at in (1, 2, 3, 0, 3)]
+    inputs: list[list[Word]] = [[file, "--also", still], [folder]]
+    for named in inputs:
+        texts, came = shown_again(program, folder, chosen, [], named)
+        wrong = difference(Answer(), dataclasses.replace(came, output=b""))
+        before = None
+        for place, copy in enumerate(chosen):
+            whole, _ = plain_sums.sum_of([(1, look_at(copy) or b""), (2, look_at(still.read_bytes()) or b"")])
+            wanted = Answer(plain_sums.text_since(whole, before, plain_show.text_of, is_live=True))
+            wrong = wrong or difference(wanted, Answer(texts[place] if place < len(texts) else b""))
+            before = whole
+        yield f"what came to {'a folder' if len(named) == 1 else 'two files'}", wrong
+
+
 def meanwhile(program: pathlib.Path, folder: pathlib.Path, closed: pathlib.Path) -> Iterator[Case]:
     """`show --live` marks the histogram whose units are not its redundant count; no other text does, and no look."""
     words = list(layout.words_of(closed.read_bytes()))
@@ -411,3 +447,4 @@ def cases(program: pathlib.Path, options: argparse.Namespace) -> Iterator[Case]:
         yield from by_hand(program, folder.resolve())
         yield from forged(program, folder.resolve(), options.seed)
         yield from chains(program, folder.resolve(), options.seed)
+        yield from sums_again(program, folder.resolve(), closed, options.seed)

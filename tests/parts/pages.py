@@ -103,6 +103,8 @@ def worked(program: pathlib.Path, folder: pathlib.Path) -> Iterator[Case]:
     """The example as a file and on standard input; names that need escapes; each choice of a script's histograms."""
     wanted = answer(program, ["show", "--html", EXAMPLE])
     yield "the example", complaint(EXAMPLE.read_bytes(), wanted.output, source=str(EXAMPLE))
+    came = answer(program, ["show", "--also", EXAMPLE, "--html"])
+    yield "the example, by --also alone", difference(wanted, came)
     wanted = answer(program, ["show", "--html"], EXAMPLE.read_bytes())
     yield "the example, on standard input", complaint(EXAMPLE.read_bytes(), wanted.output)
     yield "the example, --human", difference(

@@ -30,7 +30,7 @@ CITED: dict[str, tuple[str, str, str | None]] = {
     "kept_are_adoptable": ("segment_promises", "kept_are_adoptable", None),
     "final_deltas_take_all": ("segment_promises", "final_deltas_take_all", None),
     "image_reader::read": ("image_reader", "read", None),
-    "write_text": ("reading_shows", "write_text", None),
+    "write_text": ("text_forms", "write_text", None),
     "sum_of_inputs": ("sum_commands", "sum_of_inputs", None),
 }
 # Those of which each clause is an equation.

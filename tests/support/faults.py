@@ -68,7 +68,7 @@ NEVER = "never returned"
 # What programs never print: they print `Read` or `Write` for it.
 INNER = {"Device"}
 # What is shown without such a line.
-OTHERS = {"Clash", "NotWhole", "NoSuchStatus"}
+OTHERS = {"NotWhole", "NoSuchStatus"}
 # What a fault means begins so if it is a line of a report, and has the other one if only a program of one's own can see
 # it.
 OF_REPORTS = "In a report: "

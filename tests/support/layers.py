@@ -21,8 +21,9 @@ LIST = ROOT / "crates.txt"
 # A change of the machine must not require that these crates are proved again: nothing in them says what actors do.
 READING = [
     "image_reader", "image_adoption", "reading_texts", "reading_sums", "sum_texts", "reading_overviews", "text_styles",
-    "reading_shows", "recording_folders", "sum_commands", "persist_report_core", "segment_search", "segment_looks",
-    "segment_sizes", "size_texts", "fault_texts", "report_asks", "report_requests", "report_streams", "schedule",
+    "reading_shows", "text_forms", "recording_folders", "sum_commands", "persist_report_core", "segment_search",
+    "segment_looks", "segment_sizes", "size_texts", "fault_texts", "report_asks", "report_requests", "report_streams",
+    "report_sources", "schedule",
 ]
 MACHINE = ["segment_machine", "segment_invariant", "segment_promises"]
 

@@ -20,6 +20,8 @@ from support.layout import BOOLEAN, COOKIE_BYTES, CUSTOM, GREATEST, LEAST, LINEA
 T = TypeVar("T")
 
 TOTALS = b"totals,1\n"
+# The bytes that stand for an earlier sum where the plain reader reads a sum.
+EARLIER = b"earlier"
 MOST = 2**64 - 1
 
 # An input that is added after others has only numbers of images below this.
@@ -333,6 +335,7 @@ def reading_of(whole: Sum) -> tuple[dict[bytes, plain_reader.ReadHistogram], lis
         by_name[name] = {
             "name": name,
             "kind": spec[0],
+            "spec": spec,
             "buckets": {low: (high, part.units[low]) for low, high in zip(lows, highs)},
             "marks": part.marks,
             "sum": part.amounts,
@@ -343,9 +346,12 @@ def reading_of(whole: Sum) -> tuple[dict[bytes, plain_reader.ReadHistogram], lis
 
 
 @contextlib.contextmanager
-def read_as(whole: Sum) -> Iterator[None]:
-    """While the plain reader reads any bytes as this sum."""
-    with mock.patch.object(plain_reader, "reading_of", return_value=reading_of(whole)):
+def read_as(whole: Sum, earlier: Sum | None = None) -> Iterator[None]:
+    """While the plain reader reads any bytes as this sum, or those of EARLIER as an earlier one."""
+    def read(data: bytes, *_rest: object) -> object:
+        return reading_of(earlier if earlier and data == EARLIER else whole)
+
+    with mock.patch.object(plain_reader, "reading_of", side_effect=read):
         yield
 
 
@@ -353,6 +359,12 @@ def text_by(whole: Sum, writer: Callable[..., bytes], **options: Any) -> bytes:
     """The text of a sum by a plain writer of the text of an image."""
     with read_as(whole):
         return writer(b"", **options)
+
+
+def text_since(whole: Sum, earlier: Sum | None, writer: Callable[..., bytes], **options: Any) -> bytes:
+    """The same, with what came since an earlier sum if there is one."""
+    with read_as(whole, earlier):
+        return writer(b"", since=None if earlier is None else EARLIER, **options)
 
 
 def overview_of(whole: Sum, left: int) -> Iterator[str]:

@@ -38,9 +38,10 @@ pub use lines::{
     size_lines,
 };
 pub use nearest::{missing_lines, names_near};
+pub use persist_report_core::Shown;
 pub use records::{ScriptRecord, is_named, line_of, record_of};
 pub use script::{Finding, finding_of};
-pub use shown::{Shown, ShownSpec};
+pub use shown::ShownSpec;
 pub use specs_of::merge_lines;
 pub use table::{AllTexts, FaultText, TEXTS, fault_text, world_text};
 pub use text_table::TEXT_FAULTS;

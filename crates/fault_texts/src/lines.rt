@@ -3,10 +3,9 @@
 use crate::complaint::Complaint;
 use crate::header::{wanted_of, word_of};
 use crate::script::{Finding, finding_of};
-use crate::shown::Shown;
 use crate::table::{FaultText, fault_text, world_text};
 use crate::too_large::record_size_text;
-use persist_report_core::CliFault;
+use persist_report_core::{CliFault, Shown};
 use segment_calls::Refusal;
 use segment_image::ImageFault;
 use segment_image::layout::{COOKIE_WORD, SEGMENT_COOKIE};
@@ -67,11 +66,14 @@ pub fn remedy_lines_of(alloc: Global, line: &str) -> Result<String, AllocError> 
 
 /// What a fault means, and what to do. The name of a histogram may be that of a fault, and says nothing.
 pub fn remedy_lines(alloc: Global, fault: &CliFault) -> Result<String, AllocError> {
-    if let CliFault::NoHistogram(_) = fault {
-        return remedy_lines_of(alloc, "NoHistogram");
+    match fault {
+        CliFault::NoHistogram(_) => remedy_lines_of(alloc, "NoHistogram"),
+        CliFault::Clash { .. } => remedy_lines_of(alloc, "Clash"),
+        fault => {
+            let line: String = format!(in alloc; "{fault}")?;
+            remedy_lines_of(alloc, line.as_str())
+        }
     }
-    let line: String = format!(in alloc; "{fault}")?;
-    remedy_lines_of(alloc, line.as_str())
 }
 
 /// The file of a device that failed, and the system's reason, if it gave one.

@@ -3,9 +3,9 @@
 ghost use Rattle.std.specs.Prelude.{◌≤◌, IfOk, length};
 
 use crate::lines::Source;
-use crate::shown::Shown;
 use crate::specs_of::reading_of;
 use image_reader::Reading;
+use persist_report_core::Shown;
 use std::alloc::{AllocError, Global};
 use std::str;
 use strsim::osa_distance;

@@ -1,10 +1,10 @@
 //! The two specs of a name at which a merge stopped.
 
 use crate::lines::Source;
-use crate::shown::{Shown, ShownSpec};
+use crate::shown::ShownSpec;
 use bucket_ranges::Spec;
 use image_reader::{Reading, Survey, list_of};
-use persist_report_core::{image_in, read_input};
+use persist_report_core::{Shown, image_in, read_input};
 use segment_image::{Watched, header};
 use std::alloc::{AllocError, Global};
 

@@ -14,7 +14,7 @@ use crate::made::reading_of;
 use crate::readable::are_readable;
 use image_reader::Reading;
 use live_reading::LiveReading;
-use reading_shows::{Choice, ListStyle, Style, list_text, show_since_text, show_text};
+use reading_shows::{Drawn, list_text, show_since_text, show_text};
 use reading_texts::{Label, export_text, report_text};
 use std::alloc::{AllocError, Global};
 
@@ -69,15 +69,14 @@ pub fn export(
 pub fn show(
     alloc: Global,
     live: &LiveReading,
-    style: Style,
-    choice: Choice<'_>,
+    drawn: &Drawn<'_>,
 ) -> Result<Option<Vec<u8>>, AllocError>
-    ensures { IfOk result (λ found. MatchOption found (AreReadable live.now → ⊥) (λ text. AreReadable live.now × IsShowOf style choice.entry (reading_of_live live.now) text.items)) }
+    ensures { IfOk result (λ found. MatchOption found (AreReadable live.now → ⊥) (λ text. AreReadable live.now × IsShowOf drawn.now (reading_of_live live.now) text.items)) }
 {
     let Some(reading) = checked(alloc, live)? else {
         return Ok(None);
     };
-    Ok(Some(show_text(alloc, &reading, style, choice)?))
+    Ok(Some(show_text(alloc, &reading, drawn)?))
 }
 
 /// Returns the same text, with what came since an earlier live reading, as `reading_shows::show_since_text` does for
@@ -89,16 +88,15 @@ pub fn show_since(
     alloc: Global,
     live: &LiveReading,
     earlier: &LiveReading,
-    style: Style,
-    choice: Choice<'_>,
+    drawn: &Drawn<'_>,
 ) -> Result<Option<Vec<u8>>, AllocError>
-    ensures { IfOk result (λ found. MatchOption found (AreReadable live.now → ⊥) (λ text. AreReadable live.now × IsShowSince style choice.entry (reading_of_live earlier.now) (reading_of_live live.now) text.items)) }
+    ensures { IfOk result (λ found. MatchOption found (AreReadable live.now → ⊥) (λ text. AreReadable live.now × IsShowSince drawn.now (reading_of_live earlier.now) (reading_of_live live.now) text.items)) }
 {
     let Some(reading) = checked(alloc, live)? else {
         return Ok(None);
     };
     let earlier = reading_of(alloc, earlier)?;
-    let text = show_since_text(alloc, &reading, &earlier, style, choice)?;
+    let text = show_since_text(alloc, &reading, &earlier, drawn)?;
     Ok(Some(text))
 }
 
@@ -109,13 +107,12 @@ pub fn show_since(
 pub fn list(
     alloc: Global,
     live: &LiveReading,
-    style: ListStyle,
-    choice: Choice<'_>,
+    drawn: &Drawn<'_>,
 ) -> Result<Option<Vec<u8>>, AllocError>
-    ensures { IfOk result (λ found. MatchOption found (AreReadable live.now → ⊥) (λ text. AreReadable live.now × IsListOf style choice.entry (reading_of_live live.now) text.items)) }
+    ensures { IfOk result (λ found. MatchOption found (AreReadable live.now → ⊥) (λ text. AreReadable live.now × IsListOf drawn.now (reading_of_live live.now) text.items)) }
 {
     let Some(reading) = checked(alloc, live)? else {
         return Ok(None);
     };
-    Ok(Some(list_text(alloc, &reading, style, choice)?))
+    Ok(Some(list_text(alloc, &reading, drawn)?))
 }

@@ -9,6 +9,6 @@ mod MergeClosed
 mod MergeFilled
 mod MergeFaults
 mod MergeOutcomes
-mod Looks
 mod TakenScripts
+mod Headers
 mod Outcomes

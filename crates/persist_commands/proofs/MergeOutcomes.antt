@@ -1,6 +1,6 @@
 -- What a merge of two images results in, by how its parts ended.
-use Rattle.std.proofs.Common.{◌≡◌, ℕ, List, ◌++◌, Bool, true, false, Option, Some, None, Result, Ok, Err, inl, inr, ◌⊎◌, refl, sym, ap, subst}
-use Rattle.std.specs.Prelude.{MatchOption, ◌≢◌, ◌↔◌, ⊤, IfErr, IfSome, IsErrOf, OnOk, is_err}
+use Rattle.std.proofs.Common.{◌≡◌, ℕ, List, ◌++◌, Bool, true, false, Option, Some, None, Result, Ok, Err, inl, inr, ◌⊎◌, refl, sym, subst}
+use Rattle.std.specs.Prelude.{MatchOption, ◌↔◌, ⊤, IfErr, IfSome, IsErrOf, OnOk}
 use Rattle.segment_image.specs.Checks.{first_fault}
 use Rattle.segment_image.specs.declared.head.SegmentHead.{SegmentHead}
 use Rattle.bucket_ranges.specs.Reading.{Reading}
@@ -66,16 +66,6 @@ pub reads_well : (r : Result ⊤ CliFault) (base dead : Bool) → IfErr r (λ fa
     → IsErrOf r cli.Read ↔ ((base ≡ true) ⊎ (dead ≡ true))
 reads_well (Ok x) base dead err first second = (λ is. absurd (cc is), λ either. elim either [ inl is ↦ absurd (first is) | inr is ↦ absurd (second is) ])
 reads_well (Err fault) base dead err first second = (λ is. absurd (cc (is, err)), λ either. elim either [ inl is ↦ absurd (first is) | inr is ↦ absurd (second is) ])
-
--- the writer has failed if the result says so
-pub write_told : (r : Result ⊤ CliFault) (failed : Bool) → failed ≡ is_err r → IfErr r (λ fault. fault ≡ cli.Write) → IsErrOf r cli.Write ↔ (failed ≡ true)
-write_told (Ok x) failed is err = (λ other. absurd (cc other), λ e. absurd (cc (is, e)))
-write_told (Err fault) failed is err = (λ _. is, λ _. ap (λ (f : CliFault). Err f) err)
-
--- any other fault leaves the output alone
-pub untouched : (r : Result ⊤ CliFault) (P : Type 0) → IfErr r (λ fault. fault ≡ cli.Write) → IfErr r (λ fault. fault ≢ cli.Write → P)
-untouched (Ok x) P err = tt
-untouched (Err fault) P err = λ other. absurd (other err)
 
 -- a reader that returned has not failed
 pub not_failed : {T : Type 0} (r : Result T CliFault) (x : T) (failed : Bool) → r ≡ Ok x → (IsErrOf r cli.Read ↔ (failed ≡ true)) → failed ≡ true → ⊥

@@ -51,6 +51,7 @@ late_fault (cli.NoHistogram name) meaning bytes script few is may = absurd may
 late_fault (cli.Bad reference fault) meaning bytes script few is may = absurd may
 late_fault (cli.Stopped fault) meaning bytes script few is may = absurd may
 late_fault cli.Changed meaning bytes script few is may = absurd may
+late_fault (cli.Clash first second) meaning bytes script few is may = absurd may
 
 pub run_cause : (r : Result ⊤ CliFault) (remaining : Option (List ℕ)) (meaning : List ℕ → Result Script ScriptFault) (script : Script) → IfErr r MayEndRun
     → IfSome remaining (λ bytes. (length bytes ≤ 16777216) × (meaning bytes ≡ Ok script))
@@ -78,6 +79,7 @@ not_read (cli.NoHistogram name) may = λ e. cc e
 not_read (cli.Bad reference fault) may = λ e. cc e
 not_read (cli.Stopped fault) may = λ e. cc e
 not_read cli.Changed may = λ e. cc e
+not_read (cli.Clash first second) may = λ e. cc e
 
 pub reads_late : (r : Result ⊤ CliFault) (failed : Bool) → IfErr r MayEndRun → (failed ≡ true → ⊥) → IsErrOf r cli.Read ↔ (failed ≡ true)
 reads_late (Ok x) failed late well = (λ is. absurd (cc is), λ e. absurd (well e))

@@ -6,4 +6,3 @@ pub mod Recorded
 pub mod Run
 pub mod Resume
 pub mod MergeFiles
-pub mod LookFile

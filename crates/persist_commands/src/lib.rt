@@ -8,18 +8,14 @@
 //! If a script is resumed, its segment continues from an image, which is read whole and adopted before the script is
 //! read.
 //!
-//! A segment in a file that is in use is looked at: the file is read three times, and the image that these reads give
-//! is written.
-//!
 //! Images to be merged are read whole too. What their deltas had not taken is added to a new segment, whose image is
 //! written.
 #![tactic(auto)]
 
 mod gate;
-mod look;
 mod merging;
 mod opening;
-mod outputs;
+mod reports;
 mod resuming;
 mod run;
 mod scripts;
@@ -27,7 +23,6 @@ mod stop;
 mod worker;
 
 pub use gate::{Gate, OpenGate};
-pub use look::look_file;
 pub use merging::merge_files;
 pub use resuming::resume_script;
 pub use run::run_script;

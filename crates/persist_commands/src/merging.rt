@@ -12,10 +12,9 @@ ghost use Rattle.segment_image.specs.Words.{bytes_of_words};
 ghost use Rattle.segment_merge.specs.Image.{IsMergedImage};
 ghost use Rattle.segment_merge.specs.Merge.{IsMerged};
 
-use crate::outputs::write_image;
 use image_reader::Reading;
 use live_segment::{Recorder, Segment};
-use persist_report_core::{CliFault, image_in, read_input};
+use persist_report_core::{CliFault, image_in, read_input, write_image};
 use segment_calls::Refusal;
 use segment_image::layout::VERSION_FROZEN;
 use segment_image::{Image, SegmentHead, Watched, header};

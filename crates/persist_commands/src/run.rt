@@ -13,12 +13,12 @@ ghost use Rattle.persist_commands.specs.Stop.{EndTogether, StopTellsWant, TellsW
 
 use crate::gate::Gate;
 use crate::opening::make_histograms;
-use crate::outputs::{text_of_image, write_image};
+use crate::reports::text_of_image;
 use crate::scripts::take_script;
 use crate::stop::{Stop, both};
 use crate::worker::{Ended, Part, Worker, units_of};
 use live_segment::{Opener, Segment};
-use persist_report_core::{CliFault, Script, write_and_flush};
+use persist_report_core::{CliFault, Script, write_and_flush, write_image};
 use segment_image::layout::VERSION_FROZEN;
 use segment_image::{Image, Watched};
 use std::alloc::Global;

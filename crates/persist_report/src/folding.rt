@@ -6,16 +6,13 @@
 //!
 //! A segment that somebody records into has its lock, and stays. A fold waits for none.
 
-use crate::inputs::{Named, What};
-use crate::standing::{
-    FOLD_LOCK, MARK, NEW_TOTALS, Segment, TOTALS, cause_of_read, id_in, path_in, segments_in,
-    totals_from, totals_text_in,
-};
-use crate::sum_writing::input_failure;
-use crate::summing::tell_left;
 use image_reader::Reading;
 use persist_report_core::{CliFault, read_image, read_input};
 use recording_folders::{fold_of, folded_totals, is_named, serial_of};
+use report_sources::{
+    FOLD_LOCK, MARK, NEW_TOTALS, Named, Segment, TOTALS, What, cause_of_read, id_in, input_failure,
+    path_in, segments_in, tell_left, totals_from, totals_text_in,
+};
 use report_streams::{
     Cause, Context, Failure, System, is_at, remedies_of, take_lock, unopened, unopened_out,
 };

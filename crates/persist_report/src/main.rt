@@ -5,24 +5,16 @@
 //! prints scales, and explains faults.
 #![tactic(auto)]
 
+mod asking;
 mod extracting;
-mod families;
-mod files;
 mod folding;
-mod inputs;
 mod look;
-mod peeked;
-mod progress;
-mod recorded;
+mod recorders;
 mod repeating;
 mod run;
 mod scales;
 mod scaling;
 mod sizing;
-mod sources;
-mod standing;
-mod sum_writing;
-mod summing;
 mod texts;
 mod unmet;
 

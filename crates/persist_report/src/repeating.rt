@@ -1,33 +1,35 @@
-//! Texts of looks that are written again and again.
+//! Texts that are written once, or again and again.
 
-use crate::files::{check, open_image};
-use crate::texts::end_text;
+use crate::asking::{check_exported, give_up, open_after, open_before};
+use crate::texts::write_found;
 use fault_texts::is_terminal_at;
-use image_reader::Reading;
 use jiff::Timestamp;
 use persist_report_core::CliFault;
-use reading_shows::{Choice, Form, Style, write_text};
-use report_asks::{DASH, Repeat};
-use report_streams::{Context, Failure, System, open_out};
+use report_asks::Repeat;
+use report_requests::{Ask, Text};
+use report_sources::open_source;
+use report_streams::{Context, Failure, System};
+use std::sync::Wait;
+use std::thread::Threads;
 use std::time::{Clock, Duration};
 use std::{fmt, thread};
 
 // Clears a terminal, and begins at its first line.
 const CLEAR: &str = "\u{1b}[H\u{1b}[2J";
 
-/// Waits until a text is to be written again.
-pub fn wait<R: Clock>(rt: &R, repeat: Repeat) {
+// Waits until a text is to be written again.
+fn wait<R: Clock>(rt: &R, repeat: Repeat) {
     thread::sleep(rt, Duration::from_secs(u64::from(repeat.seconds)));
 }
 
-/// What a text begins with that is written again and again.
+// What a text begins with that is written again and again.
 #[derive(Clone, Copy, PartialEq, Eq)]
-pub enum Division {
-    /// With nothing: it replaces the one before.
+enum Division {
+    // With nothing: it replaces the one before.
     None,
-    /// With a line of the time.
+    // With a line of the time.
     Time,
-    /// With that as a comment.
+    // With that as a comment.
     Comment,
 }
 
@@ -51,9 +53,9 @@ fn now<R: Clock>(rt: &R) -> Option<Timestamp> {
     Timestamp::from_second(now.as_second()).ok()
 }
 
-/// Begins a text on standard output: a terminal is cleared, and elsewhere a line of the time comes before each text but
-/// the first. The one fault is `Write`.
-pub fn begin<R: System>(
+// Begins a text on standard output: a terminal is cleared, and elsewhere a line of the time comes before each text but
+// the first. The one fault is `Write`.
+fn begin<R: System>(
     context: &Context<'_, R>,
     division: Division,
     is_first: bool,
@@ -74,69 +76,60 @@ pub fn begin<R: System>(
     }
 }
 
-/// What is shown again and again: which histograms of the segment in which file, how, and where to.
-#[derive(Clone, Copy)]
-pub struct Shown<'a> {
-    pub file: Option<&'a str>,
-    pub style: Style,
-    pub choice: Choice<'a>,
-    pub to: Option<&'a str>,
-}
-
-// The form of a text: with what was counted since an earlier reading, if there is one.
-fn form_since<'a>(shown: Shown<'a>, earlier: Option<&'a Reading>) -> Form<'a> {
-    let Shown { style, choice, .. } = shown;
-    match earlier {
-        Some(earlier) => Form::ShowSince {
-            style,
-            choice,
-            earlier,
-        },
-        None => Form::Show { style, choice },
+// What comes before a text that is written again.
+fn division_of(ask: &Ask<'_>) -> Division {
+    match ask.text {
+        _ if ask.to.is_some() => Division::None,
+        Text::Show | Text::List | Text::Page => Division::Time,
+        Text::Export => Division::Comment,
+        Text::Report | Text::Rows | Text::Info => Division::None,
     }
 }
 
-// Writes the text of a look, and returns what was read; none if it failed, which is then the fault.
-fn show_look<'a, R: System>(
+// Begins a round: it waits, unless it is the first, and divides its text from the one before.
+fn begin_round<R: System>(
     context: &Context<'_, R>,
-    shown: Shown<'a>,
-    earlier: Option<&Reading>,
-) -> Result<Option<Reading>, Failure> {
-    let form = form_since(shown, earlier);
-    let mut reader = open_image(context, shown.file)?;
-    let mut writer = open_out(context, shown.to.unwrap_or(DASH))?;
-    let (written, found, reading) = match write_text(
-        context.alloc(),
-        form,
-        &mut reader,
-        &mut writer,
-    ) {
-        Ok(reading) => (
-            Ok(()),
-            check(context.alloc(), form, context.wants_whole, &reading),
-            Some(reading),
-        ),
-        Err(fault) => (Err(fault), Ok(()), None),
+    ask: &Ask<'_>,
+    number: u64,
+) -> Result<(), Failure> {
+    let Some(repeat) = ask.repeat else {
+        return Ok(());
     };
-    end_text(context, reader, writer, written, found)?;
-    Ok(reading)
+    if number > 0 {
+        wait(context.rt, repeat);
+    }
+    begin(context, division_of(ask), number == 0)?;
+    Ok(())
 }
 
-/// Writes texts of looks, one after the other, each but the first with what was counted since the one before. The first
-/// fault ends it.
-pub fn show_again<R: System>(
+/// Writes the text that is asked for: once, or again and again. Each round opens what is to be read, reads it, and
+/// writes its text; a text for people but the first has what came since the one before. What is wrong with what was read
+/// comes after the text. The first failure ends it.
+///
+/// A round in which a bucket has fewer units than before ends nothing, and is shown as one in which nothing came to that
+/// bucket. So it may be where another segment is in a file, or a file of a folder is gone.
+pub fn write_asked<R: System + Threads + Wait>(
     context: &Context<'_, R>,
-    shown: Shown<'_>,
-    division: Division,
-    repeat: Repeat,
+    ask: &Ask<'_>,
 ) -> Result<(), Failure> {
+    let times = ask.repeat.map_or(1, |repeat| repeat.times());
     let mut earlier = None;
-    for number in 0..repeat.times() {
-        if number > 0 {
-            wait(context.rt, repeat);
-        }
-        begin(context, division, number == 0)?;
-        earlier = show_look(context, shown, earlier.as_ref())?;
+    for number in 0..times {
+        begin_round(context, ask, number)?;
+        check_exported(context.alloc(), &ask.options.exported)?;
+        let opened = open_source(context, &ask.inputs)?;
+        let early = open_before(context, ask, &opened)?;
+        let found = match opened.read(context, &ask.inputs) {
+            Ok(found) => found,
+            Err(failure) => {
+                give_up(context, early);
+                return Err(failure);
+            }
+        };
+        let out = open_after(context, ask, early)?;
+        write_found(context, ask, &found, earlier.as_ref(), out)?;
+        found.wrong(context, &ask.options.drawn.choice, ask.wants_whole)?;
+        earlier = Some(found.into_subject());
     }
     Ok(())
 }

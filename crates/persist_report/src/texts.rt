@@ -1,145 +1,98 @@
-//! The commands that write a text of an image: to standard output, or to a file that is replaced when the text is
-//! complete.
+//! The texts of what was read, on standard output or in a file that is replaced when the text is complete.
 
 ghost use Rattle.std.specs.Prelude.{◌≡◌, false};
 ghost use Rattle.segment_image.specs.Watched.{has_failed};
 
-use crate::families::write_families;
-use crate::files::{check, open_image, write_from};
-use crate::inputs::is_of_many;
-use crate::peeked::Peeked;
-use crate::sum_writing::{Text, write_sum, write_totals};
-use persist_report_core::CliFault;
-use reading_shows::{Form, write_text};
-use reading_texts::{Label, are_line_labels, is_prefix};
-use report_asks::{Inputs, Wrong};
-use report_streams::{
-    Cause, Context, Failure, FaultContext, Noted, Output, Stream, System, failure_of, open_out,
-};
-use std::alloc::{AllocError, Global};
+use image_reader::Reading;
+use persist_report_core::{CliFault, write_and_flush};
+use report_asks::Wrong;
+use report_requests::{Ask, Options, Text};
+use report_sources::Found;
+use report_streams::{Context, Failure, FaultContext, Output, Stream, System, failure_of};
+use std::alloc::Global;
 use std::fs::File;
-use std::io::Read;
-use std::rt::Files;
-use std::sync::Wait;
-use std::thread::Threads;
-use sum_commands::InputKind;
+use std::io::{Printer, Write};
+use sum_texts::{Totals, totals_text};
+use text_forms::{Form, Subject, write_form};
 
-/// Ends the output of a text with how its writing ended, and what is wrong with what was read: a file is replaced if
-/// the text is complete.
-pub fn end_text<'a, R: Files<File = File> + AllocGlobal, I: Drop, P: Drop>(
+/// Where a text goes.
+pub type Out<'a, 'r, R> = Stream<'a, Output<File, Printer<'r, R>>>;
+
+// The form of the text that is asked for, with what came since an earlier reading if there is one.
+fn form_of<'a>(ask: &'a Ask<'_>, found: &'a Found, earlier: Option<&'a Reading>) -> Form<'a> {
+    let Options { drawn, exported } = &ask.options;
+    match (ask.text, earlier) {
+        (Text::Report, _) => Form::Report,
+        (Text::Rows, _) => Form::Rows,
+        (Text::Info, _) => Form::Info {
+            is_human: drawn.style.is_human,
+        },
+        (Text::Export, _) => Form::Export(exported),
+        (Text::Show, None) => Form::Show(drawn),
+        (Text::Show, Some(earlier)) => Form::ShowSince { drawn, earlier },
+        (Text::List, _) => Form::List(drawn),
+        (Text::Page, _) => Form::Page {
+            source: found.source(),
+            drawn,
+        },
+    }
+}
+
+// Writes a sum whole.
+fn write_totals<W: Write>(
+    alloc: Global,
+    totals: &Totals,
+    writer: &mut Stream<'_, W>,
+) -> Result<(), CliFault>
+    requires { has_failed writer.old ≡ false }
+{
+    let text = totals_text(alloc, totals)?;
+    write_and_flush(writer, &text)
+}
+
+// Ends the output of a text with how its writing ended: a file is replaced if the text is complete.
+fn end_text<'a, R: System>(
     context: &Context<'_, R>,
-    reader: Stream<'a, I>,
-    writer: Stream<'a, Output<File, P>>,
+    found: &'a Found,
+    writer: Out<'a, '_, R>,
     written: Result<(), CliFault>,
-    found: Result<(), CliFault>,
 ) -> Result<(), Failure> {
-    let (input, output) = (reader.into_inner(), writer.into_inner());
-    let (place, reason) = (output.origin(), output.reason());
-    let cause = match (output.into_inner().end(context.rt, written), found) {
-        (Err(cause), _) => cause,
-        (Ok(()), Err(fault)) => Cause::from(fault),
-        (Ok(()), Ok(())) => return Ok(()),
-    };
-    let (device, reason) = match &cause.fault {
-        CliFault::Read => (input.origin(), input.reason()),
-        _ => (place, cause.reason.or(reason)),
+    let output = writer.into_inner();
+    let (device, reason) = (output.origin(), output.reason());
+    let Err(cause) = output.into_inner().end(context.rt, written) else {
+        return Ok(());
     };
     let known = FaultContext {
-        input: input.source(),
+        input: found.input(),
         base: None,
         device,
-        reason,
+        reason: cause.reason.or(reason),
     };
     Err(failure_of(context, cause.fault, known))
 }
 
-// Writes a form of what a reader has left to a file, which is replaced when the text is complete, and then sees what is
-// wrong with what was read.
-fn write_to<'a, R: System, I: Read + Drop>(
+/// Writes the text of what was read that is asked for, with what came since an earlier text if there is one, and ends
+/// the output. What is wrong with what was read is not looked at.
+pub fn write_found<'a, R: System>(
     context: &Context<'_, R>,
-    form: Form<'_>,
-    mut reader: Stream<'a, I>,
-    to: &'a str,
+    ask: &Ask<'_>,
+    found: &'a Found,
+    earlier: Option<&Subject>,
+    mut writer: Out<'a, '_, R>,
 ) -> Result<(), Failure>
-    requires { has_failed reader ≡ false }
+    requires { has_failed writer ≡ false }
 {
-    let mut writer = open_out(context, to)?;
-    let (written, found) = match write_text(context.alloc(), form, &mut reader, &mut writer) {
-        Ok(reading) => (
-            Ok(()),
-            check(context.alloc(), form, context.wants_whole, &reading),
-        ),
-        Err(fault) => (Err(fault), Ok(())),
+    let form = form_of(ask, found, earlier.map(|earlier| earlier.reading()));
+    let subject = found.subject();
+    if !form.fits(subject) {
+        writer.into_inner().into_inner().discard(context.rt);
+        return Err(Failure::Usage(Wrong::NoOverview));
+    }
+    let written = match found.totals() {
+        Some(totals) if ask.inputs.has_totals => {
+            write_totals(context.alloc(), totals, &mut writer)
+        }
+        _ => write_form(context.alloc(), form, subject, &mut writer),
     };
-    end_text(context, reader, writer, written, found)
-}
-
-/// Writes a text of the one image that is named, or of that on standard input if no file is named, or `-`, or of the
-/// sum of all inputs: to the file `to`, or to standard output if there is none. If no file is named and standard input
-/// is a terminal, a line on the error stream reports this. What is wrong with what was read comes after the text.
-pub fn write_inputs<'a, R: System + Threads + Wait>(
-    context: &Context<'_, R>,
-    inputs: &Inputs<'a>,
-    text: Text<'_>,
-    to: Option<&'a str>,
-) -> Result<(), Failure> {
-    if is_of_many(context.rt, inputs) {
-        return write_sum(context, inputs, text, to);
-    }
-    let opened = open_image(context, inputs.first())?.into_inner();
-    let origin = opened.origin();
-    let (kind, peeked) = Peeked::of(context.alloc(), opened.into_inner())?;
-    let reader = Noted::stream(peeked, origin, context.copy());
-    match (kind, text) {
-        (InputKind::Totals, _) => write_totals(context, text, reader, to),
-        (_, Text::Form(form)) => match to {
-            Some(to) => write_to(context, form, reader, to),
-            None => write_from(context, form, reader),
-        },
-        (_, Text::Families { prefix, labels }) => {
-            write_families(context, reader, prefix, labels, to)
-        }
-    }
-}
-
-// The labels that these words name, each as KEY=VALUE; none if one has no equals sign.
-fn labels_of<'a>(alloc: Global, words: &[&'a str]) -> Result<Option<Vec<Label<'a>>>, AllocError> {
-    let mut labels = Vec::new(alloc);
-    for word in words {
-        let Some((key, value)) = word.split_once('=') else {
-            return Ok(None);
-        };
-        labels.push(Label {
-            key: key.as_bytes(),
-            value: value.as_bytes(),
-        })?;
-    }
-    Ok(Some(labels))
-}
-
-/// Writes the metrics of an image, if their names may begin with the prefix, and all lines may have these labels, each
-/// given as KEY=VALUE; with a family for each histogram if that is asked for.
-pub fn write_export<'a, R: System + Threads + Wait>(
-    context: &Context<'_, R>,
-    inputs: &Inputs<'a>,
-    prefix: &str,
-    words: &[&str],
-    has_families: bool,
-    to: Option<&'a str>,
-) -> Result<(), Failure> {
-    if !is_prefix(prefix.as_bytes()) {
-        return Err(Failure::Usage(Wrong::NoPrefix));
-    }
-    match labels_of(context.alloc(), words)? {
-        Some(labels) if are_line_labels(&labels) => {
-            let labels = labels.as_slice();
-            let text = if has_families {
-                Text::Families { prefix, labels }
-            } else {
-                Text::Form(Form::Export { prefix, labels })
-            };
-            write_inputs(context, inputs, text, to)
-        }
-        _ => Err(Failure::Usage(Wrong::NoLabels)),
-    }
+    end_text(context, found, writer, written)
 }

@@ -1,12 +1,14 @@
 -- Why there is no report, and what the report is if there is one.
-use Rattle.std.proofs.Common.{◌≡◌, ◌≢◌, ◌∙◌, ◌⊎◌, inl, inr, ℕ, List, Option, Some, None, Result, Ok, Err, MatchResult, OnOk, ap, refl}
+use Rattle.std.proofs.Common.{◌≡◌, ◌≢◌, ◌∙◌, ◌⊎◌, inl, inr, ℕ, List, Bool, true, Option, Some, None, Result, Ok, Err, MatchResult, OnOk, ap, refl}
+use Rattle.std.specs.Prelude.{◌↔◌, ⊤, IfErr, IsErrOf, is_err}
 use Rattle.std.proofs.lemmas.Result.{MatchResult-at_ok, MatchResult-at_err}
 use Rattle.std.specs.Io.KnownBytes.{Appends, Keeps}
 use Rattle.segment_image.specs.Head.{header_of}
 use Rattle.segment_image.specs.declared.head.SegmentHead.{SegmentHead}
 use Rattle.segment_image.specs.declared.fault.ImageFault.{ImageFault}
 use Rattle.segment_image.specs.declared.fault.ImageFault.TheVariants as image
-use Rattle.persist_report_core.specs.declared.fault.CliFault.TheVariants.{Image}
+use Rattle.persist_report_core.specs.declared.fault.CliFault.{CliFault}
+use Rattle.persist_report_core.specs.declared.fault.CliFault.TheVariants.{Image, Read, Write}
 use Rattle.persist_report_core.specs.Fault.{fault_of_image}
 use Rattle.persist_report_core.specs.Report.{AreWordsOf, IsCausedByImage}
 
@@ -48,3 +50,24 @@ Appends-kept text (Some old) (Some written) (Some flushed) p q = q ∙ p
 pub OnOk-always : {T E : Type 0} (P : Type 0) (r : Result T E) → P → OnOk r P
 OnOk-always P (Ok x) p = p
 OnOk-always P (Err e) p = tt
+
+-- a call that returned reports no failure
+pub not_told : {X : Type 0} (r : Result X CliFault) (x : X) (P : Type 0) → r ≡ Ok x → (IsErrOf r Read ↔ P) → P → ⊥
+not_told r x P was told p = cc (was, told.1 p)
+
+-- a call that never says that a read failed does not say it where no reader has
+pub never_read : {X : Type 0} (r : Result X CliFault) (P : Type 0) → IfErr r (λ fault. fault ≢ Read) → (P → ⊥) → IsErrOf r Read ↔ P
+never_read (Ok x) P other none = (λ is. absurd (cc is), λ p. absurd (none p))
+never_read (Err fault) P other none = (λ is. absurd (other (cc is)), λ p. absurd (none p))
+
+-- ---- when only the write may fail
+
+-- the writer has failed if the result says so
+pub write_told : (r : Result ⊤ CliFault) (failed : Bool) → failed ≡ is_err r → IfErr r (λ fault. fault ≡ Write) → IsErrOf r Write ↔ (failed ≡ true)
+write_told (Ok x) failed is err = (λ other. absurd (cc other), λ e. absurd (cc (is, e)))
+write_told (Err fault) failed is err = (λ _. is, λ _. ap (λ (f : CliFault). Err f) err)
+
+-- any other fault leaves the output alone
+pub untouched : (r : Result ⊤ CliFault) (P : Type 0) → IfErr r (λ fault. fault ≡ Write) → IfErr r (λ fault. fault ≢ Write → P)
+untouched (Ok x) P err = tt
+untouched (Err fault) P err = λ other. absurd (other err)

@@ -7,5 +7,6 @@ pub mod ScriptRows
 pub mod Records
 pub mod ReadScripts
 mod ReadWhole
+mod Looks
 pub mod Inputs
 pub mod Wholeness

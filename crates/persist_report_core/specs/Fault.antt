@@ -28,6 +28,7 @@ cli_fault_number (cli.NoHistogram name) = 14
 cli_fault_number (cli.Bad reference fault) = 15
 cli_fault_number (cli.Stopped fault) = 16
 cli_fault_number cli.Changed = 17
+cli_fault_number (cli.Clash first second) = 18
 
 -- the fault of a call whose reading of words failed
 abbrev pub fault_of_read : ReadFault → CliFault

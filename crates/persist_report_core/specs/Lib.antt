@@ -9,3 +9,4 @@ pub mod Request
 pub mod Script
 pub mod Draft
 pub mod Rows
+pub mod LookFile

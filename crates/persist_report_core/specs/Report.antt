@@ -6,7 +6,7 @@ use Rattle.segment_image.specs.declared.head.SegmentHead.{SegmentHead}
 use Rattle.bucket_ranges.specs.Reading.{Reading, IsReading}
 use Rattle.persist_report_core.specs.Input.{image_in, most_bytes}
 use Rattle.persist_report_core.specs.declared.fault.CliFault.{CliFault}
-use Rattle.persist_report_core.specs.declared.fault.CliFault.TheVariants.{Read, Write, TooLong, NotWords, Image, BadLine, Refused, Gate, Merge, NoThread, NoMemory, Adopt, NoSegment, NoHistogram, Bad, Stopped, Changed}
+use Rattle.persist_report_core.specs.declared.fault.CliFault.TheVariants.{Read, Write, TooLong, NotWords, Image, BadLine, Refused, Gate, Merge, NoThread, NoMemory, Adopt, NoSegment, NoHistogram, Bad, Stopped, Changed, Clash}
 use Rattle.reading_texts.specs.Text.{IsTextOf}
 
 -- The words of the image in an input with these bytes. The input's words have 64 bits: a larger number would have the bytes of another
@@ -55,3 +55,4 @@ IsCausedByImage bytes (NoHistogram name) = ⊥
 IsCausedByImage bytes (Bad reference fault) = ⊥
 IsCausedByImage bytes (Stopped fault) = ⊥
 IsCausedByImage bytes Changed = ⊥
+IsCausedByImage bytes (Clash first second) = ⊥

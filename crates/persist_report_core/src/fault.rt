@@ -1,5 +1,6 @@
 //! Why a call of the program did not do its work.
 
+use crate::shown::Shown;
 use image_reader::RecordFault;
 use segment_calls::{AdoptFault, Refusal};
 use segment_image::{ImageFault, ReadFault};
@@ -62,6 +63,9 @@ pub enum CliFault {
     /// Between the reads of a look, another segment took the place of the one in the file.
     #[error("Changed")]
     Changed,
+    /// With a family of metrics for each histogram, those of these two names would have metrics of one name.
+    #[error("Clash {one} {other}", one = Shown(.first), other = Shown(.second))]
+    Clash { first: Vec<u8>, second: Vec<u8> },
 }
 
 // The bytes of a name as text on one line: ASCII blanks, letters, digits and signs unchanged, and any other byte as its
@@ -107,6 +111,7 @@ impl CliFault {
             CliFault::Bad { .. } => 15,
             CliFault::Stopped(_) => 16,
             CliFault::Changed => 17,
+            CliFault::Clash { .. } => 18,
         }
     }
 }

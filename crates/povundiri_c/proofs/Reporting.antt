@@ -10,7 +10,12 @@ use Rattle.segment_image.specs.declared.fault.ImageFault.TheVariants.{NoMemory}
 use Rattle.image_reader.specs.Keys.{HasMoreKeys}
 use Rattle.image_reader.specs.declared.reading.Reading.{Reading}
 use Rattle.image_reader.specs.Views.{reading_view}
-use Rattle.povundiri_c.specs.Reports.{IsSaidOfValid, IsTextOfWords, SayKeys}
+use Rattle.text_forms.specs.declared.head.Head.{Head}
+use Rattle.text_forms.specs.declared.head.Head.TheVariants.{Unknown}
+use Rattle.text_forms.specs.declared.subject.Subject.{Subject}
+use Rattle.povundiri_c.specs.declared.texts.TextAsked.{TextAsked}
+use Rattle.povundiri_c.specs.declared.texts.TextAsked.TheVariants.{Report, Export, Show}
+use Rattle.povundiri_c.specs.Reports.{IsAskedOf, IsSaidOfValid, IsTextAsked, IsTextOfWords, SayKeys}
 use Rattle.povundiri_c.specs.Status.{status_of_image_fault}
 
 -- the status of words that have no reading is that of their header's fault, if it has one
@@ -33,6 +38,19 @@ text_of_words IsOf words (Ok head) result reading text Q same held is of = recor
   text_is = of;
 }
 text_of_words IsOf words (Err fault) result reading text Q same held is of = absurd (subst (λ (read : Result Reading ImageFault). MatchResult read (λ _. Unit {0}) (λ _. ⊥)) (sym is ∙ held) tt)
+
+-- the text of a reading alone is the one that is asked for
+asked_of_reading : (asked : TextAsked) (reading : ranges.Reading) (text : List ℕ) → IsAskedOf asked Unknown reading text → IsTextAsked asked reading text
+asked_of_reading Report reading text is = is
+asked_of_reading (Export prefix) reading text is = is
+asked_of_reading (Show width) reading text is = is
+
+-- that of the subject which was made of what was read
+pub asked_of_subject : (asked : TextAsked) (subject : Subject) (reading : Reading) (text : List ℕ) → subject.reading ≡ reading → subject.head ≡ Unknown
+    → IsAskedOf asked subject.head (reading_view subject.reading) text → IsTextAsked asked (reading_view reading) text
+asked_of_subject asked subject reading text same alone is =
+    asked_of_reading asked (reading_view reading) text (subst (λ (head : Head). IsAskedOf asked head (reading_view reading) text) alone
+    (subst (λ (one : Reading). IsAskedOf asked subject.head (reading_view one) text) same is))
 
 -- bytes that were written in front of others
 pub in_front : (text bytes old : List ℕ) (count : ℕ) → bytes ≡ text → count ≡ length text → bytes ++ drop count old ≡ text ++ drop (length text) old

@@ -1,8 +1,7 @@
 -- Sums that C holds.
-use Rattle.std.proofs.Common.{◌≡◌, ◌⊎◌, ℕ, List, [], refl, sym, ap, ◌∙◌, subst, inl, inr, Option, Some, None, Result, Ok, Err, MatchResult, IfOk}
+use Rattle.std.proofs.Common.{◌≡◌, ◌⊎◌, ℕ, List, [], refl, sym, ap, ◌∙◌, subst, inl, inr, Option, Some, None, Result, Ok, Err, MatchResult, IfOk, IfErr, All}
 use Rattle.std.proofs.lemmas.Result.{MatchResult-at_ok, MatchResult-at_err}
 use Rattle.std.specs.declared.vec.Vec.{Vec}
-use Rattle.std.specs.declared.alloc.AllocError.{AllocError}
 use Rattle.std.specs.declared.alloc.Global.{Global}
 use Rattle.bucket_ranges.specs.Reading as ranges
 use Rattle.bucket_ranges.specs.Reading.{IsReading}
@@ -12,9 +11,7 @@ use Rattle.segment_image.specs.declared.fault.ImageFault.{ImageFault}
 use Rattle.segment_image.specs.declared.fault.ImageFault.TheVariants.{NoMemory}
 use Rattle.image_reader.specs.declared.reading.Reading.{Reading}
 use Rattle.image_reader.specs.Views.{reading_view}
-use Rattle.reading_shows.specs.declared.choice.Choice.TheVariants.{All}
-use Rattle.text_styles.specs.declared.style.Style.{Style}
-use Rattle.reading_shows.specs.Showing.{IsShowOf}
+use Rattle.image_reader.specs.Readable.{IsReadable}
 use Rattle.reading_sums.specs.declared.sums.Sums.{Sums}
 use Rattle.reading_sums.specs.Sums.{IsSumOver}
 use Rattle.reading_sums.specs.Whole.{IsWellFormed}
@@ -24,9 +21,14 @@ use Rattle.sum_texts.specs.Views.{whole_of}
 use Rattle.povundiri_c.specs.declared.contents.Contents.{Contents}
 use Rattle.povundiri_c.specs.declared.contents.Contents.TheVariants as contents
 use Rattle.povundiri_c.specs.declared.status.Refused.{Refused}
-use Rattle.povundiri_c.specs.Reports.{style_asked}
+use Rattle.text_forms.specs.declared.head.Head.{Head}
+use Rattle.text_forms.specs.Subjects.{IsSubjectOfSum}
+use Rattle.text_forms.proofs.Reports.{report_of_sum}
+use Rattle.povundiri_c.specs.declared.texts.TextAsked.{TextAsked}
+use Rattle.povundiri_c.specs.declared.texts.TextAsked.TheVariants.{Report, Export, Show}
+use Rattle.povundiri_c.specs.Reports.{IsAskedOf}
 use Rattle.povundiri_c.specs.Status.{status_of_image_fault}
-use Rattle.povundiri_c.specs.Sums.{IsReadingAdded, AddsTotalsText, AppendsOrRefuses, BySums, IsImageAdded, IsSaidOfAdding, IsShownAs, IsSumMade, IsSumShow, sums_in}
+use Rattle.povundiri_c.specs.Sums.{IsReadingAdded, AddsTotalsText, AppendsOrRefuses, BySums, IsImageAdded, IsSaidOfAdding, IsShownAs, IsSumMade, IsSumText, IsTextOrStatus, sums_in}
 
 -- the contents are a sum
 pub by_sums : {A : Type 0} (other : A) (Calls : Sums → A → Sums → Type 0) (it : Contents) (sums after : Sums) (answer : A)
@@ -84,9 +86,24 @@ totals_added text totals old (Err why) new same formed (inr many, unchanged) = (
 
 -- ---- texts
 
--- the text of a reading that a sum is shown as, in the style that is asked for
-pub sum_shown : (width : ℕ) (sums : Sums) (reading : ranges.Reading) (style : Style) (result : Result (Vec ℕ Global) AllocError) → style ≡ style_asked width
-    → IsShownAs sums reading → IfOk result (λ text. IsShowOf style All reading text.items) → IfOk result (λ text. IsSumShow width sums text.items)
-sum_shown width sums reading style (Ok text) same shown is =
-    (reading, shown, subst (λ (one : Style). IsShowOf one All reading text.items) same is)
-sum_shown width sums reading style (Err why) same shown is = tt
+-- a sum is shown as the reading of its subject
+shown_as : (sums : Sums) (head : Head) (reading : ranges.Reading) → IsSubjectOfSum sums 0 head reading → All IsReadable reading.hists → IsShownAs sums reading
+shown_as sums head reading of readable = record {
+  readable = readable;
+  full = of.reading_is.full;
+  corrupt = of.reading_is.corrupt;
+  rest = (of.id, of.reading_is.bad, of.reading_is.stopped);
+}
+
+-- the text of the subject of a sum is that of the sum
+text_of_sum : (asked : TextAsked) (sums : Sums) (head : Head) (reading : ranges.Reading) (text : List ℕ) → IsSubjectOfSum sums 0 head reading → All IsReadable reading.hists
+    → IsAskedOf asked head reading text → IsSumText asked sums text
+text_of_sum Report sums head reading text of readable is = report_of_sum sums 0 head reading of text is
+text_of_sum (Export prefix) sums head reading text of readable is = (reading, shown_as sums head reading of readable, is)
+text_of_sum (Show width) sums head reading text of readable is = (reading, shown_as sums head reading of readable, is)
+
+-- such a text, or the status of memory that ran out
+pub said_of_sum : (asked : TextAsked) (sums : Sums) (head : Head) (reading : ranges.Reading) (result : Result (Vec ℕ Global) ℕ) → IsSubjectOfSum sums 0 head reading → All IsReadable reading.hists
+    → IfOk result (λ text. IsAskedOf asked head reading text.items) → IfErr result (λ status. status ≡ 13) → IsTextOrStatus (IsSumText asked) sums result
+said_of_sum asked sums head reading (Ok text) of readable is status = text_of_sum asked sums head reading text.items of readable is
+said_of_sum asked sums head reading (Err why) of readable is status = inl status

@@ -6,9 +6,12 @@ use Rattle.segment_image.specs.declared.head.SegmentHead.{SegmentHead}
 use Rattle.image_reader.specs.Keys.{HasMoreKeys}
 use Rattle.reading_texts.specs.Text.{IsTextOf}
 use Rattle.reading_texts.specs.Exporting.{IsExportOf}
-use Rattle.reading_shows.specs.declared.choice.Choice.TheVariants.{All}
+use Rattle.text_styles.specs.declared.choice.Choice.TheVariants.{All}
+use Rattle.text_styles.specs.declared.drawn.Drawn.{Drawn}
 use Rattle.text_styles.specs.declared.style.Style.{Style}
 use Rattle.reading_shows.specs.Showing.{IsShowOf}
+use Rattle.text_forms.specs.declared.head.Head.{Head}
+use Rattle.text_forms.specs.Forms.{IsReportIn}
 use Rattle.povundiri_c.specs.declared.texts.TextAsked.{TextAsked}
 use Rattle.povundiri_c.specs.declared.texts.TextAsked.TheVariants.{Report, Export, Show}
 
@@ -30,19 +33,29 @@ style_asked width = record {
   marks_meanwhile = false;
 }
 
+-- what is drawn: all histograms, in lines of this many cells
+abbrev pub drawn_asked : ℕ → Drawn
+drawn_asked width = record { style = style_asked width; is_by_units = false; choice = All }
+
 -- the metrics of a reading with this prefix, without labels of all lines
 abbrev pub IsExportAsked : List ℕ → Reading → List ℕ → Type 0
 IsExportAsked prefix = IsExportOf prefix []
 
 -- the text of a reading for people in this width, of all histograms
 abbrev pub IsShowAsked : ℕ → Reading → List ℕ → Type 0
-IsShowAsked width = IsShowOf (style_asked width) All
+IsShowAsked width = IsShowOf (drawn_asked width)
 
 -- the text that is asked for
 abbrev pub IsTextAsked : TextAsked → Reading → List ℕ → Type 0
 IsTextAsked Report = IsTextOf
 IsTextAsked (Export prefix) = IsExportAsked prefix.now
 IsTextAsked (Show width) = IsShowAsked width
+
+-- the text of a subject that is asked for; the report of a sum says what that leaves out
+abbrev pub IsAskedOf : TextAsked → Head → Reading → List ℕ → Type 0
+IsAskedOf Report head = IsReportIn head
+IsAskedOf (Export prefix) head = IsExportAsked prefix.now
+IsAskedOf (Show width) head = IsShowAsked width
 
 -- ---- what is written of it
 

@@ -2,18 +2,16 @@
 
 ghost use Rattle.std.specs.Prelude.{◌≡◌, ◌≢◌, Some, IfErr, IfOk};
 ghost use Rattle.segment_image.specs.Head.{header_of};
-ghost use Rattle.reading_sums.specs.Whole.{IsWellFormed};
 ghost use Rattle.povundiri_c.specs.Status.{status_of_image_fault, status_of_sums_fault};
 ghost use Rattle.povundiri_c.specs.Sums.{AddsOther, AddsTotalsText, AppendsOrRefuses, IsImageAdded, IsSaidOfAdding, IsSumText, IsTextOrStatus, IsTotalsOrStatus};
 
 use crate::status::{BAD_TOTALS, DONE, NO_MEMORY, Refused, of_image_fault, of_sums_fault};
-use crate::texts::{TextAsked, style_of};
+use crate::texts::{TextAsked, text_of};
 use image_reader::read;
-use reading_shows::{Choice, show_text};
 use reading_sums::Sums;
-use reading_texts::export_text;
-use std::alloc::{AllocError, Global};
-use sum_texts::{Totals, TotalsFault, report_of, totals_of, totals_text};
+use std::alloc::Global;
+use sum_texts::{Totals, TotalsFault, totals_of, totals_text};
+use text_forms::Subject;
 
 /// Reads an image, and adds it under a number. Or the status says why not, and the sum is unchanged.
 pub(crate) fn add_image(alloc: Global, sums: &mut Sums, number: u64, words: &[u64]) -> u32
@@ -67,34 +65,13 @@ pub(crate) fn add_totals(alloc: Global, sums: &mut Sums, text: &[u8]) -> Result<
     }
 }
 
-// The text of a well-formed sum.
-fn written(alloc: Global, sums: &Sums, asked: TextAsked<'_>) -> Result<Vec<u8>, AllocError>
-    requires { IsWellFormed sums.now }
-    ensures { IfOk result (λ text. IsSumText asked.entry sums.now text.items) }
-{
-    match asked {
-        TextAsked::Report => report_of(alloc, sums, 0),
-        TextAsked::Export { prefix } => {
-            let reading = sums.reading(alloc)?;
-            export_text(alloc, &reading, prefix, &[])
-        }
-        TextAsked::Show { width } => {
-            let reading = sums.reading(alloc)?;
-            show_text(alloc, &reading, style_of(width), Choice::All)
-        }
-    }
-}
-
 /// The text of a sum. Or the status says why there is none.
 pub(crate) fn text_of_sums(alloc: Global, sums: &Sums, asked: TextAsked<'_>) -> Result<Vec<u8>, u32>
     ensures { IsTextOrStatus (IsSumText asked.entry) sums.now result }
 {
-    match sums.is_well_formed() {
-        Ok(true) => match written(alloc, sums, asked) {
-            Ok(text) => Ok(text),
-            Err(_) => Err(NO_MEMORY),
-        },
-        Ok(false) => Err(BAD_TOTALS),
+    match Subject::of_sum(alloc, sums, 0) {
+        Ok(Some(subject)) => text_of(alloc, asked, &subject),
+        Ok(None) => Err(BAD_TOTALS),
         Err(_) => Err(NO_MEMORY),
     }
 }

@@ -1,4 +1,3 @@
-pub mod Answering
 pub mod Cells
 pub mod Inert
 pub mod Numbered

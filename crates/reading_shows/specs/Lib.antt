@@ -7,6 +7,7 @@ pub mod RowNames
 pub mod Bars
 pub mod Heights
 pub mod Choice
+pub mod Exported
 pub mod Missing
 pub mod Most
 pub mod Since
@@ -19,4 +20,3 @@ pub mod Sheet
 pub mod PageRows
 pub mod PageLists
 pub mod Page
-pub mod Writing

@@ -9,8 +9,7 @@ use Rattle.reading_texts.specs.Text.{kind_word}
 use Rattle.reading_texts.specs.Exporting.{joined}
 use Rattle.reading_overviews.specs.Numbers.{number}
 use Rattle.reading_shows.specs.declared.listing.ListColumns.{ListColumns}
-use Rattle.text_styles.specs.declared.list_style.ListStyle.{ListStyle}
-use Rattle.reading_shows.specs.declared.choice.Choice.{Choice}
+use Rattle.text_styles.specs.declared.drawn.Drawn.{Drawn}
 use Rattle.reading_shows.specs.Columns.{at_left, at_right, times}
 use Rattle.reading_shows.specs.RowNames.{row_names_of}
 use Rattle.reading_shows.specs.Shares.{mean}
@@ -126,9 +125,9 @@ AreOrdered true found lines = AreRanked found lines
 AreOrdered false found lines = lines ≡ found
 
 -- the list of a reading: lines of the chosen histograms, and the sentences after them
-pub record IsListOf (style : ListStyle) (choice : Choice) (reading : Reading) (text : List ℕ) : Type 0 where
+pub record IsListOf (drawn : Drawn) (reading : Reading) (text : List ℕ) : Type 0 where
   pub hists : List Histogram
   pub lines : List ListLine
-  pub shown : AreShown choice hists reading
-  pub ordered : AreOrdered style.is_by_units (map (line_of style.is_human) hists) lines
-  pub is : text ≡ list_of_some style.width lines ++ ending hists reading
+  pub shown : AreShown drawn.choice hists reading
+  pub ordered : AreOrdered drawn.is_by_units (map (line_of drawn.style.is_human) hists) lines
+  pub is : text ≡ list_of_some drawn.style.width lines ++ ending hists reading

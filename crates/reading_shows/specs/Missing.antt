@@ -4,13 +4,13 @@ use Rattle.std.specs.Borrow.{Bor}
 use Rattle.std.specs.List.{find, list_any}
 use Rattle.std.specs.Str.{bytes_eq}
 use Rattle.bucket_ranges.specs.Reading.{Reading}
-use Rattle.reading_shows.specs.declared.choice.Choice.{Choice}
-use Rattle.reading_shows.specs.declared.choice.Choice.TheVariants.{All as Everything, Named, Part}
+use Rattle.text_styles.specs.declared.choice.Choice.{Choice}
+use Rattle.text_styles.specs.declared.choice.Choice.TheVariants.{All as Everything, Named, Part}
 
 -- the names that a choice asks for; a part of a name is not one of these
 abbrev pub names_of : Choice → List (Bor (List ℕ))
 names_of Everything = []
-names_of (Named names) = names.now
+names_of (Named names) = names.items
 names_of (Part part) = []
 
 -- whether a histogram of a reading has this name

@@ -10,7 +10,7 @@ use Rattle.reading_texts.specs.Exporting.{joined}
 use Rattle.reading_overviews.specs.declared.sum_overview.SumHead.{SumHead}
 use Rattle.reading_overviews.specs.Overview.{overview}
 use Rattle.reading_overviews.specs.SumOverview.{sum_overview}
-use Rattle.reading_shows.specs.declared.choice.Choice.{Choice}
+use Rattle.text_styles.specs.declared.drawn.Drawn.{Drawn}
 use Rattle.reading_shows.specs.declared.source.Source.{Source}
 use Rattle.reading_shows.specs.Escapes.{escaped}
 use Rattle.reading_shows.specs.Most.{shown_rows, left_out_rows}
@@ -59,15 +59,14 @@ page_in_order source all hists lines reading =
     ++ codes "</footer>\n</body>\n</html>\n"
 
 -- the page of a reading whose overview has these lines; with all values of sparse histograms, or those that rank first
-abbrev pub IsPageWith : Source → Bool → Choice → List ℕ → Reading → List ℕ → Type 0
-IsPageWith source all choice lines reading page =
-    (hists : List Histogram) × AreShown choice hists reading × (page ≡ page_in_order source all hists lines reading)
+abbrev pub IsPageWith : Source → Drawn → List ℕ → Reading → List ℕ → Type 0
+IsPageWith source drawn lines reading page =
+    (hists : List Histogram) × AreShown drawn.choice hists reading × (page ≡ page_in_order source drawn.style.shows_all hists lines reading)
 
 -- the page of an image; with all values of sparse histograms, or those that rank first
-abbrev pub IsPageOf : Source → Bool → Choice → SegmentHead → Reading → List ℕ → Type 0
-IsPageOf source all choice head reading page = IsPageWith source all choice (overview true head reading) reading page
+abbrev pub IsPageOf : Source → Drawn → SegmentHead → Reading → List ℕ → Type 0
+IsPageOf source drawn head reading page = IsPageWith source drawn (overview true head reading) reading page
 
 -- the page of a sum of images: that of its reading, with the overview of a sum
-abbrev pub IsPageOfSum : Source → Bool → Choice → SumHead → Reading → List ℕ → Type 0
-IsPageOfSum source all choice head reading page =
-    IsPageWith source all choice (sum_overview true head reading.hists) reading page
+abbrev pub IsPageOfSum : Source → Drawn → SumHead → Reading → List ℕ → Type 0
+IsPageOfSum source drawn head reading page = IsPageWith source drawn (sum_overview true head reading.hists) reading page

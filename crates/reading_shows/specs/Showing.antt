@@ -13,10 +13,11 @@ use Rattle.reading_texts.specs.Text.{kind_word, record_fault_word, image_fault_w
 use Rattle.reading_texts.specs.Exporting.{joined, is_sparse}
 use Rattle.reading_overviews.specs.Numbers.{number, signed}
 use Rattle.text_styles.specs.declared.style.Style.{Style}
+use Rattle.text_styles.specs.declared.choice.Choice.{Choice}
+use Rattle.text_styles.specs.declared.drawn.Drawn.{Drawn}
 use Rattle.reading_shows.specs.declared.frame.Frame.{Frame}
 use Rattle.reading_shows.specs.declared.frame.LineColumns.{LineColumns}
 use Rattle.reading_shows.specs.declared.row_names.RowNames.{RowNames}
-use Rattle.reading_shows.specs.declared.choice.Choice.{Choice}
 use Rattle.reading_shows.specs.Choice.{is_chosen}
 use Rattle.reading_shows.specs.Most.{shown_rows, left_out_rows}
 use Rattle.reading_shows.specs.RowNames.{row_names_of, is_truth, range_text, has_line}
@@ -277,14 +278,14 @@ abbrev pub text_in_order : Style → Since → List Histogram → Reading → Li
 text_in_order style since hists reading = flat_map (histogram_text style since) hists ++ ending hists reading
 
 -- the text of a reading, with what came since an earlier one if the text says that
-abbrev pub IsShowTold : Style → Choice → Since → Reading → List ℕ → Type 0
-IsShowTold style choice since reading text =
-    (hists : List Histogram) × AreShown choice hists reading × (text ≡ text_in_order style since hists reading)
+abbrev pub IsShowTold : Drawn → Since → Reading → List ℕ → Type 0
+IsShowTold drawn since reading text =
+    (hists : List Histogram) × AreShown drawn.choice hists reading × (text ≡ text_in_order drawn.style since hists reading)
 
 -- the text of a reading
-abbrev pub IsShowOf : Style → Choice → Reading → List ℕ → Type 0
-IsShowOf style choice reading text = IsShowTold style choice untold reading text
+abbrev pub IsShowOf : Drawn → Reading → List ℕ → Type 0
+IsShowOf drawn reading text = IsShowTold drawn untold reading text
 
 -- the text of a reading, with what came to its histograms since an earlier one
-abbrev pub IsShowSince : Style → Choice → Reading → Reading → List ℕ → Type 0
-IsShowSince style choice earlier reading text = IsShowTold style choice (told_since earlier) reading text
+abbrev pub IsShowSince : Drawn → Reading → Reading → List ℕ → Type 0
+IsShowSince drawn earlier reading text = IsShowTold drawn (told_since earlier) reading text

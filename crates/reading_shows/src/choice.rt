@@ -2,22 +2,12 @@
 
 ghost use Rattle.std.specs.Prelude.{◌≡◌, IfOk, map};
 ghost use Rattle.image_reader.specs.Views.{histogram_view, reading_view};
-ghost use Rattle.reading_shows.specs.Choice.{has_part as has_part_of, is_chosen as is_chosen_of};
+ghost use Rattle.reading_shows.specs.Choice.{has_name, has_part as has_part_of, is_chosen as is_chosen_of};
 ghost use Rattle.reading_shows.specs.Showing.{AreShown};
 
 use image_reader::{HistReading, Reading};
 use std::alloc::{AllocError, Global};
-
-/// Which histograms are shown.
-#[derive(Clone, Copy)]
-pub enum Choice<'a> {
-    /// All of them.
-    All,
-    /// Those with one of these names.
-    Named(&'a [&'a str]),
-    /// Those whose name contains this part.
-    Part(&'a str),
-}
+use text_styles::Choice;
 
 // Whether a part is anywhere in a name.
 fn has_part(part: &[u8], name: &[u8]) -> bool
@@ -33,7 +23,7 @@ fn has_part(part: &[u8], name: &[u8]) -> bool
 
 // Whether a name is one of these.
 fn is_named(names: &[&str], hist: &HistReading) -> bool
-    ensures { result ≡ is_chosen_of (Choice.Named names.entry) (histogram_view hist.now) }
+    ensures { result ≡ has_name names.now (histogram_view hist.now) }
 {
     for name in names {
         if name.as_bytes() == hist.name.as_slice() {
@@ -44,12 +34,12 @@ fn is_named(names: &[&str], hist: &HistReading) -> bool
 }
 
 // Whether a histogram is chosen.
-fn is_chosen(choice: Choice<'_>, hist: &HistReading) -> bool
-    ensures { result ≡ is_chosen_of choice.entry (histogram_view hist.now) }
+fn is_chosen(choice: &Choice<'_>, hist: &HistReading) -> bool
+    ensures { result ≡ is_chosen_of choice.now (histogram_view hist.now) }
 {
     match choice {
         Choice::All => true,
-        Choice::Named(names) => is_named(names, hist),
+        Choice::Named(names) => is_named(names.as_slice(), hist),
         Choice::Part(part) => has_part(part.as_bytes(), hist.name.as_slice()),
     }
 }
@@ -58,9 +48,9 @@ fn is_chosen(choice: Choice<'_>, hist: &HistReading) -> bool
 pub(crate) fn chosen<'a>(
     alloc: Global,
     reading: &'a Reading,
-    choice: Choice<'_>,
+    choice: &Choice<'_>,
 ) -> Result<Vec<&'a HistReading>, AllocError>
-    ensures { IfOk result (λ hists. AreShown choice.entry (map (λ hist. histogram_view hist.now) hists.items) (reading_view reading.now)) }
+    ensures { IfOk result (λ hists. AreShown choice.now (map (λ hist. histogram_view hist.now) hists.items) (reading_view reading.now)) }
 {
     let mut hists: Vec<&HistReading> = Vec::new(alloc);
     for hist in &reading.hists {

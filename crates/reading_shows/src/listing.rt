@@ -10,7 +10,7 @@ ghost use Rattle.reading_shows.specs.ListViews.{entry_view};
 ghost use Rattle.reading_shows.specs.Shares.{mean};
 ghost use Rattle.reading_shows.specs.Showing.{quantile as quantile_of, range_of_found};
 
-use crate::choice::{Choice, chosen};
+use crate::choice::chosen;
 use crate::columns::{put_at_left, put_at_right, put_bytes};
 use crate::ending::put_ending;
 use crate::heading::{put_found, quantile};
@@ -20,7 +20,7 @@ use image_reader::{HistReading, Reading};
 use reading_overviews::put_number;
 use reading_texts::{HistRow, kind_word, rows_of, units};
 use std::alloc::{AllocError, Global};
-use text_styles::ListStyle;
+use text_styles::Drawn;
 
 // A line of a list, as its separate texts.
 #[derive(Drop)]
@@ -292,20 +292,15 @@ fn put_list(
 /// kind, its units and their mean, two quantiles and the greatest bucket that has units; then the flags that are set,
 /// the bad records and why the list of records stops, if it does. The lines are sorted by name; or by units, the most
 /// first, and those with equal units by name. The only error is that memory runs out.
-pub fn list_text(
-    alloc: Global,
-    reading: &Reading,
-    style: ListStyle,
-    choice: Choice<'_>,
-) -> Result<Vec<u8>, AllocError>
+pub fn list_text(alloc: Global, reading: &Reading, drawn: &Drawn<'_>) -> Result<Vec<u8>, AllocError>
     requires { All IsReadable (map histogram_view reading.now.hists.items) }
-    ensures { IfOk result (λ text. IsListOf style choice.entry (reading_view reading.now) text.items) }
+    ensures { IfOk result (λ text. IsListOf drawn.now (reading_view reading.now) text.items) }
 {
-    let hists = chosen(alloc, reading, choice)?;
-    let mut entries = entries_of(alloc, style.is_human, hists.as_slice())?;
-    order(&mut entries, style.is_by_units)?;
+    let hists = chosen(alloc, reading, &drawn.choice)?;
+    let mut entries = entries_of(alloc, drawn.style.is_human, hists.as_slice())?;
+    order(&mut entries, drawn.is_by_units)?;
     let mut text = Vec::new(alloc);
-    put_list(alloc, &mut text, style.width, entries)?;
+    put_list(alloc, &mut text, drawn.style.width, entries)?;
     put_ending(alloc, &mut text, hists.as_slice(), reading)?;
     Ok(text)
 }

@@ -7,7 +7,7 @@ ghost use Rattle.image_reader.specs.Readable.{IsReadable};
 ghost use Rattle.reading_shows.specs.Page.{table, title, section, IsPageOf, IsPageOfSum, IsPageWith};
 ghost use Rattle.reading_texts.specs.Rows.{rows_of as rows_of_histogram};
 
-use crate::choice::{Choice, chosen};
+use crate::choice::chosen;
 use crate::ending::put_ending;
 use crate::escapes::escaped;
 use crate::frame::{frame_of, shows_all_of};
@@ -23,6 +23,7 @@ use reading_overviews::{SumHead, overview_text, sum_overview_text};
 use reading_texts::{HistRow, put_parts, rows_of};
 use segment_image::SegmentHead;
 use std::alloc::{AllocError, Global};
+use text_styles::Drawn;
 
 // Puts the table of a histogram with these rows, and how many others there are.
 fn put_table(
@@ -112,13 +113,12 @@ fn page_with(
     lines: &[u8],
     reading: &Reading,
     source: Source<'_>,
-    shows_all: bool,
-    choice: Choice<'_>,
+    drawn: &Drawn<'_>,
 ) -> Result<Vec<u8>, AllocError>
     requires { All IsReadable (map histogram_view reading.now.hists.items) }
-    ensures { IfOk result (λ page. IsPageWith source.entry shows_all choice.entry lines.now (reading_view reading.now) page.items) }
+    ensures { IfOk result (λ page. IsPageWith source.entry drawn.now lines.now (reading_view reading.now) page.items) }
 {
-    let hists = chosen(alloc, reading, choice)?;
+    let hists = chosen(alloc, reading, &drawn.choice)?;
     let hists = hists.as_slice();
     let mut text = Vec::new(alloc);
     let named = source_text(alloc, source)?;
@@ -126,7 +126,7 @@ fn page_with(
     put_page_overview(&mut text, lines)?;
     put_page_list(alloc, &mut text, hists)?;
     text.extend_from_slice(b"<main>\n")?;
-    put_sections(alloc, &mut text, shows_all, hists)?;
+    put_sections(alloc, &mut text, drawn.style.shows_all, hists)?;
     text.extend_from_slice(b"</main>\n<footer>")?;
     put_ending(alloc, &mut text, hists, reading)?;
     text.extend_from_slice(b"</footer>\n</body>\n</html>\n")?;
@@ -143,14 +143,13 @@ pub fn page_text(
     head: &SegmentHead,
     reading: &Reading,
     source: Source<'_>,
-    shows_all: bool,
-    choice: Choice<'_>,
+    drawn: &Drawn<'_>,
 ) -> Result<Vec<u8>, AllocError>
     requires { All IsReadable (map histogram_view reading.now.hists.items) }
-    ensures { IfOk result (λ page. IsPageOf source.entry shows_all choice.entry head.now (reading_view reading.now) page.items) }
+    ensures { IfOk result (λ page. IsPageOf source.entry drawn.now head.now (reading_view reading.now) page.items) }
 {
     let lines = overview_text(alloc, true, head, reading)?;
-    page_with(alloc, lines.as_slice(), reading, source, shows_all, choice)
+    page_with(alloc, lines.as_slice(), reading, source, drawn)
 }
 
 /// Returns the web page of a sum of images, byte for byte: the page of [`page_text`] for the reading of the sum, with
@@ -161,12 +160,11 @@ pub fn page_of_sum(
     head: &SumHead,
     reading: &Reading,
     source: Source<'_>,
-    shows_all: bool,
-    choice: Choice<'_>,
+    drawn: &Drawn<'_>,
 ) -> Result<Vec<u8>, AllocError>
     requires { All IsReadable (map histogram_view reading.now.hists.items) }
-    ensures { IfOk result (λ page. IsPageOfSum source.entry shows_all choice.entry head.now (reading_view reading.now) page.items) }
+    ensures { IfOk result (λ page. IsPageOfSum source.entry drawn.now head.now (reading_view reading.now) page.items) }
 {
     let lines = sum_overview_text(alloc, true, head, reading)?;
-    page_with(alloc, lines.as_slice(), reading, source, shows_all, choice)
+    page_with(alloc, lines.as_slice(), reading, source, drawn)
 }

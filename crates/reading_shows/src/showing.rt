@@ -9,7 +9,7 @@ ghost use Rattle.reading_shows.specs.Showing.{histogram_text, row_lines, text_be
 ghost use Rattle.reading_shows.specs.Since.{came_to_all, came_to_rows};
 ghost use Rattle.reading_shows.specs.SinceViews.{since_view};
 
-use crate::choice::{Choice, chosen};
+use crate::choice::chosen;
 use crate::ending::put_ending;
 use crate::frame::{Frame, frame_of, shows_all_of};
 use crate::heading::put_numbers;
@@ -20,7 +20,7 @@ use crate::since::{Since, came_in_all, cames_of, counts_before};
 use image_reader::{HistReading, Reading};
 use reading_texts::{HistRow, rows_of};
 use std::alloc::{AllocError, Global};
-use text_styles::Style;
+use text_styles::{Drawn, Style};
 
 // The units that came to a histogram with these rows since it had these counts, or 0 if the text does not say them.
 fn came_to_histogram(
@@ -128,20 +128,15 @@ fn put_histograms(
 /// have together. If the redundant count of a histogram differs from its units, a style that shows redundant counts
 /// adds a line with it, and a style that marks such histograms adds a line after the name. The only error is that
 /// memory runs out.
-pub fn show_text(
-    alloc: Global,
-    reading: &Reading,
-    style: Style,
-    choice: Choice<'_>,
-) -> Result<Vec<u8>, AllocError>
+pub fn show_text(alloc: Global, reading: &Reading, drawn: &Drawn<'_>) -> Result<Vec<u8>, AllocError>
     requires { All IsReadable (map histogram_view reading.now.hists.items) }
-    ensures { IfOk result (λ text. IsShowOf style choice.entry (reading_view reading.now) text.items) }
+    ensures { IfOk result (λ text. IsShowOf drawn.now (reading_view reading.now) text.items) }
 {
     let nothing = Since {
         is_told: false,
         hists: &[],
     };
-    told_text(alloc, reading, nothing, style, choice)
+    told_text(alloc, reading, nothing, drawn)
 }
 
 /// Returns the same text, byte for byte, with what came since an earlier reading. After the units of each bucket, and
@@ -155,17 +150,16 @@ pub fn show_since_text(
     alloc: Global,
     reading: &Reading,
     earlier: &Reading,
-    style: Style,
-    choice: Choice<'_>,
+    drawn: &Drawn<'_>,
 ) -> Result<Vec<u8>, AllocError>
     requires { All IsReadable (map histogram_view reading.now.hists.items) }
-    ensures { IfOk result (λ text. IsShowSince style choice.entry (reading_view earlier.now) (reading_view reading.now) text.items) }
+    ensures { IfOk result (λ text. IsShowSince drawn.now (reading_view earlier.now) (reading_view reading.now) text.items) }
 {
     let since = Since {
         is_told: true,
         hists: earlier.hists.as_slice(),
     };
-    told_text(alloc, reading, since, style, choice)
+    told_text(alloc, reading, since, drawn)
 }
 
 // The text of a reading, with what came since an earlier one if `since` has that.
@@ -173,15 +167,14 @@ fn told_text(
     alloc: Global,
     reading: &Reading,
     since: Since<'_>,
-    style: Style,
-    choice: Choice<'_>,
+    drawn: &Drawn<'_>,
 ) -> Result<Vec<u8>, AllocError>
     requires { All IsReadable (map histogram_view reading.now.hists.items) }
-    ensures { IfOk result (λ text. IsShowTold style choice.entry (since_view since.entry) (reading_view reading.now) text.items) }
+    ensures { IfOk result (λ text. IsShowTold drawn.now (since_view since.entry) (reading_view reading.now) text.items) }
 {
-    let hists = chosen(alloc, reading, choice)?;
+    let hists = chosen(alloc, reading, &drawn.choice)?;
     let mut text = Vec::new(alloc);
-    put_histograms(alloc, &mut text, style, since, hists.as_slice())?;
+    put_histograms(alloc, &mut text, drawn.style, since, hists.as_slice())?;
     put_ending(alloc, &mut text, hists.as_slice(), reading)?;
     Ok(text)
 }

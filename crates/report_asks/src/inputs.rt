@@ -23,6 +23,12 @@ pub struct Inputs<'a> {
     pub is_strict: bool,
     /// Whether the sum is written whole.
     pub has_totals: bool,
+    /// Whether files in use are looked at.
+    pub is_live: bool,
+    /// Where the segment that is looked at begins in its file: at a byte, or at the start.
+    pub at: Option<u64>,
+    /// Whether it is one image alone, and neither totals nor a folder.
+    pub is_image_alone: bool,
 }
 
 // Whether a file is named, and is standard input.

@@ -4,7 +4,7 @@ use Rattle.report_asks.specs.Inputs.{dash}
 use Rattle.report_asks.specs.declared.wrong.Wrong.{Wrong}
 use Rattle.report_asks.specs.declared.wrong.Wrong.TheVariants.{NoFile, TwoInputs, TwoOutputs}
 use Rattle.report_requests.specs.declared.task.Task.{Task}
-use Rattle.report_requests.specs.declared.task.Task.TheVariants.{Report, Export, Info, Show, Run, Resume, Merge, Look, Fold, Extract, Size, Scale, Explain}
+use Rattle.report_requests.specs.declared.task.Task.TheVariants.{Text, Run, Resume, Merge, Look, Fold, Extract, Size, Scale, Explain}
 
 -- whether a task names `-` only where it may: not as OUT if it also writes a report, not as two inputs, and not as a file that is read
 -- three times. Commands that write a text read standard input if no file or `-` is named.
@@ -13,10 +13,7 @@ DashesFit (Run script out workers) = out.now ≢ dash
 DashesFit (Resume base script out workers) = (out.now ≢ dash) × (¬ ((base.now ≡ dash) × (script.now ≡ dash)))
 DashesFit (Merge base dead out) = ¬ ((base.now ≡ dash) × (dead.now ≡ dash))
 DashesFit (Look file at out) = file.now ≢ dash
-DashesFit (Report rows to) = ⊤
-DashesFit (Export prefix labels families to) = ⊤
-DashesFit (Info file human) = ⊤
-DashesFit (Show file names part style list page to) = ⊤
+DashesFit (Text ask) = ⊤
 DashesFit (Fold folder) = ⊤
 DashesFit (Extract file out nth) = ⊤
 DashesFit (Size task) = ⊤
@@ -30,10 +27,7 @@ IsDashMistake (Resume base script out workers) wrong =
     ((out.now ≡ dash) × (wrong ≡ TwoOutputs)) ⊎ ((base.now ≡ dash) × (script.now ≡ dash) × (wrong ≡ TwoInputs))
 IsDashMistake (Merge base dead out) wrong = (base.now ≡ dash) × (dead.now ≡ dash) × (wrong ≡ TwoInputs)
 IsDashMistake (Look file at out) wrong = (file.now ≡ dash) × (wrong ≡ NoFile)
-IsDashMistake (Report rows to) wrong = ⊥
-IsDashMistake (Export prefix labels families to) wrong = ⊥
-IsDashMistake (Info file human) wrong = ⊥
-IsDashMistake (Show file names part style list page to) wrong = ⊥
+IsDashMistake (Text ask) wrong = ⊥
 IsDashMistake (Fold folder) wrong = ⊥
 IsDashMistake (Extract file out nth) wrong = ⊥
 IsDashMistake (Size task) wrong = ⊥

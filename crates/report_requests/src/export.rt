@@ -1,11 +1,14 @@
 //! The command `export`.
 
-use crate::arguments::{command_with, explain_flag, flag, option, put, put_live_options};
-use crate::sum_options::{images, put_sum_options};
-use crate::task::Task;
-use crate::text_options::{put_repeat_options, to_found, to_option, whole_flag};
+use crate::arguments::{command_with, explain_flag, flag, option, put};
+use crate::sum_options::images;
+use crate::text_options::put_text_options;
 use clap::{Arg, ArgAction, ArgMatches, Command};
 use std::alloc::{AllocError, Global};
+use text_styles::{Exported, LineLabel};
+
+// What the names of metrics begin with, if nothing else is asked for.
+const PREFIX: &str = "povundiri";
 
 // What the command does.
 const DETAILS: &str = "Print the histograms of an image, or of the sum of several, in the Prometheus
@@ -15,7 +18,7 @@ values of sparse histograms, and how many records are bad.";
 // What the names of all metrics begin with.
 fn prefix_option<'a>(alloc: Global) -> Arg<'a> {
     option(alloc, "prefix", "PREFIX", "Prefix of all metric names")
-        .default_value("povundiri")
+        .default_value(PREFIX)
         .long_help("Prefix of all metric names: letters, digits and _, no digit first")
 }
 
@@ -48,11 +51,7 @@ fn put_args<'a>(alloc: Global, args: &mut Vec<Arg<'a>>) -> Result<(), AllocError
     put(args, prefix_option(alloc))?;
     put(args, label_option(alloc))?;
     put(args, families_flag(alloc))?;
-    put(args, to_option(alloc))?;
-    put_live_options(alloc, args)?;
-    put_sum_options(alloc, args)?;
-    put_repeat_options(alloc, args)?;
-    put(args, whole_flag(alloc))?;
+    put_text_options(alloc, args, true)?;
     put(args, explain_flag(alloc))
 }
 
@@ -70,27 +69,27 @@ pub fn export_command<'a>(alloc: Global) -> Result<Command<'a>, AllocError> {
     Ok(command.long_about(DETAILS))
 }
 
-// The labels that were given, each as KEY=VALUE. The only error is that memory runs out.
-fn labels_found<'a>(alloc: Global, found: &ArgMatches<'a>) -> Result<Vec<&'a str>, AllocError> {
-    match found.get_strs("label") {
-        Some(labels) => Vec::from_slice(alloc, labels),
-        None => Ok(Vec::new(alloc)),
+// The labels that were given, each as KEY=VALUE: one without an equals sign has no value, which no label may lack.
+fn labels_found<'a>(
+    alloc: Global,
+    found: &ArgMatches<'a>,
+) -> Result<Vec<LineLabel<'a>>, AllocError> {
+    let mut labels = Vec::new(alloc);
+    for word in found.get_strs("label").unwrap_or_default() {
+        let (key, value) = word.split_once('=').unwrap_or((*word, ""));
+        labels.push(LineLabel { key, value })?;
     }
+    Ok(labels)
 }
 
-/// What `export` is asked for; none if something is missing, which the parser refuses. The only error is that memory
-/// runs out.
-pub fn export_task<'a>(
+/// What an export is asked for. The only error is that memory runs out.
+pub fn exported_found<'a>(
     alloc: Global,
-    export: &ArgMatches<'a>,
-) -> Result<Option<Task<'a>>, AllocError> {
-    let labels = labels_found(alloc, export)?;
-    Ok(
-        export.get_str("prefix").map(|prefix| Task::Export {
-            prefix,
-            labels,
-            has_families: export.get_flag("families"),
-            to: to_found(export),
-        }),
-    )
+    found: &ArgMatches<'a>,
+) -> Result<Exported<'a>, AllocError> {
+    Ok(Exported {
+        prefix: found.get_str("prefix").unwrap_or(PREFIX).as_bytes(),
+        labels: labels_found(alloc, found)?,
+        has_families: found.get_flag("families"),
+    })
 }

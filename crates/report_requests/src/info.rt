@@ -1,8 +1,7 @@
 //! The command `info`.
 
 use crate::arguments::{command_with, explain_flag, flag, image, put, put_live_options};
-use crate::task::Task;
-use clap::{Arg, ArgMatches, Command};
+use clap::{Arg, Command};
 use std::alloc::{AllocError, Global};
 
 // The arguments of the command.
@@ -27,12 +26,4 @@ pub fn info_command<'a>(alloc: Global) -> Result<Command<'a>, AllocError> {
         "Example:\n  persist_report info my.img",
         args,
     )
-}
-
-/// What `info` is asked for.
-pub fn info_task<'a>(info: &ArgMatches<'a>) -> Task<'a> {
-    Task::Info {
-        file: info.get_str("FILE"),
-        is_human: info.get_flag("human"),
-    }
 }

@@ -6,6 +6,7 @@
 #![tactic(auto)]
 
 mod arguments;
+mod ask;
 mod command;
 mod dashes;
 mod explain;
@@ -30,6 +31,7 @@ mod task;
 mod text_options;
 mod unasked;
 
+pub use ask::{Ask, Options, Text};
 pub use dashes::check_dashes;
 pub use mistakes::error_of;
 pub use nth::Nth;

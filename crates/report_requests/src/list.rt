@@ -1,9 +1,8 @@
 //! The options of `show` that make a list of it.
 
 use crate::arguments::{excluding, flag, option, put};
-use clap::{Arg, ArgMatches};
+use clap::Arg;
 use std::alloc::{AllocError, Global};
-use text_styles::{ListStyle, Style};
 
 // The orders of a list.
 static ORDERS: [&str; 2] = ["name", "units"];
@@ -16,18 +15,6 @@ fn human_flag<'a>(alloc: Global) -> Arg<'a> {
     flag(alloc, "human", "Write numbers with separators: 1,234,567").long_help(
         "Write numbers with separators: 1,234,567 (a page always does)",
     )
-}
-
-/// How `show` lists histograms, if it is asked for a list: in the width and with the numbers of the text.
-pub fn list_style(show: &ArgMatches<'_>, style: Style) -> Option<ListStyle> {
-    if !show.get_flag("list") {
-        return None;
-    }
-    Some(ListStyle {
-        width: style.width,
-        is_human: style.is_human,
-        is_by_units: matches!(show.get_str("sort"), Some("units")),
-    })
 }
 
 // Asks for a list.

@@ -1,10 +1,9 @@
 //! The command `report`.
 
-use crate::arguments::{command_with, explain_flag, flag, put, put_live_options};
-use crate::sum_options::{images, put_sum_options, totals_flag};
-use crate::task::Task;
-use crate::text_options::{to_found, to_option, whole_flag};
-use clap::{Arg, ArgMatches, Command};
+use crate::arguments::{command_with, explain_flag, flag, put};
+use crate::sum_options::{images, totals_flag};
+use crate::text_options::put_text_options;
+use clap::{Arg, Command};
 use std::alloc::{AllocError, Global};
 
 // What the command does.
@@ -34,10 +33,7 @@ fn put_args<'a>(alloc: Global, args: &mut Vec<Arg<'a>>) -> Result<(), AllocError
     put(args, images(alloc))?;
     put(args, rows_flag(alloc))?;
     put(args, totals_flag(alloc)?)?;
-    put(args, to_option(alloc))?;
-    put_live_options(alloc, args)?;
-    put_sum_options(alloc, args)?;
-    put(args, whole_flag(alloc))?;
+    put_text_options(alloc, args, false)?;
     put(args, explain_flag(alloc))
 }
 
@@ -53,12 +49,4 @@ pub fn report_command<'a>(alloc: Global) -> Result<Command<'a>, AllocError> {
         args,
     )?;
     Ok(command.long_about(DETAILS))
-}
-
-/// What `report` is asked for.
-pub fn report_task<'a>(report: &ArgMatches<'a>) -> Task<'a> {
-    Task::Report {
-        has_rows_alone: report.get_flag("rows"),
-        to: to_found(report),
-    }
 }

@@ -3,27 +3,21 @@
 ghost use Rattle.std.specs.Prelude.{IfErr};
 ghost use Rattle.report_requests.specs.Mistakes.{HasItsKind};
 
+use crate::ask::ask_found;
 use crate::command::command;
 use crate::explain::explain_task;
-use crate::export::export_task;
 use crate::extract::extract_task;
 use crate::fold::fold_task;
-use crate::info::info_task;
 use crate::look::look_task;
 use crate::merge::merge_task;
-use crate::report::report_task;
 use crate::resume::resume_task;
 use crate::run::run_task;
 use crate::scale::scale_task;
-use crate::show::show_task;
 use crate::size::size_task;
-use crate::sum_options::inputs_found;
 use crate::task::Task;
-use crate::text_options::repeat_found;
 use crate::unasked::Unasked;
 use clap::ArgMatches;
 use clap::error::ErrorKind;
-use report_asks::{Inputs, Repeat};
 use std::alloc::{AllocError, Global};
 use std::convert::AsStr;
 
@@ -31,17 +25,23 @@ use std::convert::AsStr;
 #[derive(Drop)]
 pub struct Request<'a> {
     pub task: Task<'a>,
-    /// What a command that writes a text reads.
-    pub inputs: Inputs<'a>,
     /// Whether faults are to be explained.
     pub explains: bool,
-    /// Whether an image that is not whole is a fault.
-    pub wants_whole: bool,
-    /// Whether a file in use is looked at, and where the segment begins in it.
-    pub is_live: bool,
-    pub at: Option<u64>,
-    /// How often its text is written; once if this is none.
-    pub repeat: Option<Repeat>,
+}
+
+// What a command of this name does, if it writes no text; none if something is missing, which the parser refuses.
+fn other_task<'a>(name: &str, found: &ArgMatches<'a>) -> Option<Task<'a>> {
+    match name {
+        "run" => run_task(found),
+        "resume" => resume_task(found),
+        "merge" => merge_task(found),
+        "look" => look_task(found),
+        "fold" => fold_task(found),
+        "extract" => extract_task(found),
+        "scale" => scale_task(found),
+        "explain" => Some(explain_task(found)),
+        _ => None,
+    }
 }
 
 // What a command of this name does, and whether it is asked to explain; none if something is missing, which the parser
@@ -53,35 +53,12 @@ fn task_of<'a>(
     columns: u16,
     explains: bool,
 ) -> Result<Option<Task<'a>>, AllocError> {
-    match name {
-        "show" => Ok(Some(show_task(alloc, found, columns, explains)?)),
-        "size" => Ok(Some(Task::Size(size_task(alloc, found)?))),
-        "export" => export_task(alloc, found),
-        _ => Ok(plain_task(name, found)),
+    if name == "size" {
+        return Ok(Some(Task::Size(size_task(alloc, found)?)));
     }
-}
-
-// The same, for each command except `show`, `size` and `export`.
-fn plain_task<'a>(name: &str, found: &ArgMatches<'a>) -> Option<Task<'a>> {
-    match name {
-        "report" => Some(report_task(found)),
-        "info" => Some(info_task(found)),
-        "scale" => scale_task(found),
-        "explain" => Some(explain_task(found)),
-        _ => writing_task(name, found),
-    }
-}
-
-// The same, for the commands that write images and totals.
-fn writing_task<'a>(name: &str, found: &ArgMatches<'a>) -> Option<Task<'a>> {
-    match name {
-        "run" => run_task(found),
-        "resume" => resume_task(found),
-        "merge" => merge_task(found),
-        "look" => look_task(found),
-        "fold" => fold_task(found),
-        "extract" => extract_task(found),
-        _ => None,
+    match ask_found(alloc, name, found, columns, explains)? {
+        Some(ask) => Ok(Some(Task::Text(ask))),
+        None => Ok(other_task(name, found)),
     }
 }
 
@@ -99,15 +76,7 @@ impl<'a> Request<'a> {
         if let Some((name, found)) = matches.subcommand() {
             let explains = found.get_flag("explain") || matches.get_flag("explain");
             if let Some(task) = task_of(alloc, name, found, columns, explains)? {
-                return Ok(Request {
-                    task,
-                    inputs: inputs_found(alloc, found)?,
-                    explains,
-                    wants_whole: found.get_flag("whole"),
-                    is_live: found.get_flag("live"),
-                    at: found.get_one::<u64>("at"),
-                    repeat: repeat_found(found),
-                });
+                return Ok(Request { task, explains });
             }
         }
         let missing = command.error(ErrorKind::MissingSubcommand, "a subcommand is required")?;

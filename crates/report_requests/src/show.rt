@@ -1,13 +1,12 @@
 //! The command `show`.
 
-use crate::arguments::{excluding, explain_flag, flag, image, option, put, put_live_options};
-use crate::list::{list_style, put_list_options};
-use crate::sum_options::{also_option, put_sum_options};
-use crate::task::Task;
-use crate::text_options::{put_repeat_options, to_found, to_option, whole_flag};
+use crate::arguments::{excluding, explain_flag, flag, image, option, put};
+use crate::list::put_list_options;
+use crate::sum_options::also_option;
+use crate::text_options::put_text_options;
 use clap::{Arg, ArgMatches, Command, value_parser};
 use std::alloc::{AllocError, Global};
-use text_styles::Style;
+use text_styles::{Choice, Drawn, Style};
 
 // What the command does.
 const DETAILS: &str = "Show the histograms of an image, or of the sum of several: numbers, quantiles
@@ -99,11 +98,7 @@ fn put_args<'a>(alloc: Global, args: &mut Vec<Arg<'a>>) -> Result<(), AllocError
     put_choice(alloc, args)?;
     put_list_options(alloc, args)?;
     put_style_options(alloc, args)?;
-    put(args, to_option(alloc))?;
-    put_live_options(alloc, args)?;
-    put_sum_options(alloc, args)?;
-    put_repeat_options(alloc, args)?;
-    put(args, whole_flag(alloc))?;
+    put_text_options(alloc, args, true)?;
     put(args, explain_counts_flag(alloc))
 }
 
@@ -118,34 +113,36 @@ pub fn show_command<'a>(alloc: Global) -> Result<Command<'a>, AllocError> {
         .args(args)
 }
 
-/// What `show` is asked for, in lines of `columns` columns unless it says how many. The only error is that memory runs
-/// out.
-pub fn show_task<'a>(
+// Which histograms are shown. The only error is that memory runs out.
+fn choice_found<'a>(alloc: Global, found: &ArgMatches<'a>) -> Result<Choice<'a>, AllocError> {
+    if let Some(part) = found.get_str("match") {
+        return Ok(Choice::Part(part));
+    }
+    match found.get_strs("NAME") {
+        Some(names) if !names.is_empty() => Ok(Choice::Named(Vec::from_slice(alloc, names)?)),
+        _ => Ok(Choice::All),
+    }
+}
+
+/// What a text for people is asked for, in lines of `columns` columns unless the words say how many. The only error is
+/// that memory runs out.
+pub fn drawn_found<'a>(
     alloc: Global,
-    show: &ArgMatches<'a>,
+    found: &ArgMatches<'a>,
     columns: u16,
     explains: bool,
-) -> Result<Task<'a>, AllocError> {
-    let names = match show.get_strs("NAME") {
-        Some(names) => Vec::from_slice(alloc, names)?,
-        None => Vec::new(alloc),
-    };
-    let style = Style {
-        width: show.get_one::<u16>("width").unwrap_or(columns),
-        is_ascii: show.get_flag("ascii"),
-        is_human: show.get_flag("human"),
-        is_log: show.get_flag("log"),
-        shows_all: show.get_flag("all"),
-        shows_redundant: explains,
-        marks_meanwhile: show.get_flag("live"),
-    };
-    Ok(Task::Show {
-        file: show.get_str("FILE"),
-        names,
-        part: show.get_str("match"),
-        style,
-        list: list_style(show, style),
-        is_page: show.get_flag("html"),
-        to: to_found(show),
+) -> Result<Drawn<'a>, AllocError> {
+    Ok(Drawn {
+        style: Style {
+            width: found.get_one::<u16>("width").unwrap_or(columns),
+            is_ascii: found.get_flag("ascii"),
+            is_human: found.get_flag("human"),
+            is_log: found.get_flag("log"),
+            shows_all: found.get_flag("all"),
+            shows_redundant: explains,
+            marks_meanwhile: found.get_flag("live"),
+        },
+        is_by_units: matches!(found.get_str("sort"), Some("units")),
+        choice: choice_found(alloc, found)?,
     })
 }

@@ -92,8 +92,13 @@ pub fn totals_flag<'a>(alloc: Global) -> Result<Arg<'a>, AllocError> {
     .conflicts_with("rows")
 }
 
-/// What a command line names as inputs.
-pub fn inputs_found<'a>(alloc: Global, found: &ArgMatches<'a>) -> Result<Inputs<'a>, AllocError> {
+/// What a command line names as inputs: one image alone, or what may also be a sum. The only error is that memory runs
+/// out.
+pub fn inputs_found<'a>(
+    alloc: Global,
+    found: &ArgMatches<'a>,
+    is_image_alone: bool,
+) -> Result<Inputs<'a>, AllocError> {
     let mut files = Vec::new(alloc);
     if let Some(named) = found.get_strs("FILE") {
         files.extend_from_slice(named)?;
@@ -108,5 +113,8 @@ pub fn inputs_found<'a>(alloc: Global, found: &ArgMatches<'a>) -> Result<Inputs<
         workers: found.get_one::<u32>("workers").and_then(Workers::of),
         is_strict: found.get_flag("strict"),
         has_totals: found.get_flag("totals"),
+        is_live: found.get_flag("live"),
+        at: found.get_one::<u64>("at"),
+        is_image_alone,
     })
 }

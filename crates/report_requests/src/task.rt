@@ -1,44 +1,16 @@
 //! What a command does.
 
+use crate::ask::Ask;
 use crate::nth::Nth;
 use crate::scale::Scale;
 use crate::size::SizeTask;
 use report_asks::Workers;
-use text_styles::{ListStyle, Style};
 
-/// What a command does. The image in `file` is that on standard input if there is no file. A text goes to the file
-/// `to`, or to standard output if there is none.
+/// What a command does.
 #[derive(Drop)]
 pub enum Task<'a> {
-    /// Write the report of an image, or the rows of that alone.
-    Report {
-        has_rows_alone: bool,
-        to: Option<&'a str>,
-    },
-    /// Write the metrics of an image, whose names begin with the prefix, with these labels on all lines, each as
-    /// KEY=VALUE; with a family for each histogram if that is asked for.
-    Export {
-        prefix: &'a str,
-        labels: Vec<&'a str>,
-        has_families: bool,
-        to: Option<&'a str>,
-    },
-    /// Write the overview of an image, with commas in numbers if they are for people.
-    Info {
-        file: Option<&'a str>,
-        is_human: bool,
-    },
-    /// Write histograms of an image for people, as text, as a list or as a web page: those with the names, those whose
-    /// name contains the part, or all.
-    Show {
-        file: Option<&'a str>,
-        names: Vec<&'a str>,
-        part: Option<&'a str>,
-        style: Style,
-        list: Option<ListStyle>,
-        is_page: bool,
-        to: Option<&'a str>,
-    },
+    /// Write a text of images, of totals or of what a recording has counted.
+    Text(Ask<'a>),
     /// Run a script by workers, and write the image to a file and its report to standard output.
     Run {
         script: &'a str,

@@ -1,24 +1,20 @@
 //! The options of the commands that write a text.
 
-use crate::arguments::{flag, option, put};
+use crate::arguments::{flag, option, put, put_live_options};
+use crate::sum_options::put_sum_options;
 use clap::{Arg, ArgMatches, value_parser};
 use report_asks::Repeat;
 use std::alloc::{AllocError, Global};
 
-/// The file that a text is written to.
-pub fn to_option<'a>(alloc: Global) -> Arg<'a> {
+// The file that a text is written to.
+fn to_option<'a>(alloc: Global) -> Arg<'a> {
     option(alloc, "to", "OUT", "Write to the file OUT").long_help(
         "Write to the file OUT, which is replaced when the text is complete",
     )
 }
 
-/// The file that a text is to be written to, if one is named.
-pub fn to_found<'a>(found: &ArgMatches<'a>) -> Option<&'a str> {
-    found.get_str("to")
-}
-
-/// Asks for a fault if the image is not whole.
-pub fn whole_flag<'a>(alloc: Global) -> Arg<'a> {
+// Asks for a fault if the image is not whole.
+fn whole_flag<'a>(alloc: Global) -> Arg<'a> {
     flag(alloc, "whole", "End with a fault if the image is damaged").long_help(
         "End with a fault, after the text, if a record is bad or the list of\nrecords stops early",
     )
@@ -49,10 +45,20 @@ fn count_option<'a>(alloc: Global) -> Result<Arg<'a>, AllocError> {
     .requires_arg("every")
 }
 
-/// The options of a text of a look that is written again and again.
-pub fn put_repeat_options<'a>(alloc: Global, args: &mut Vec<Arg<'a>>) -> Result<(), AllocError> {
-    put(args, every_option(alloc)?)?;
-    put(args, count_option(alloc)?)
+/// The options of each text that may be that of a sum; with those of one that may be written again and again.
+pub fn put_text_options<'a>(
+    alloc: Global,
+    args: &mut Vec<Arg<'a>>,
+    repeats: bool,
+) -> Result<(), AllocError> {
+    put(args, to_option(alloc))?;
+    put_live_options(alloc, args)?;
+    put_sum_options(alloc, args)?;
+    if repeats {
+        put(args, every_option(alloc)?)?;
+        put(args, count_option(alloc)?)?;
+    }
+    put(args, whole_flag(alloc))
 }
 
 /// How often a text is to be written, if the command line says so.

@@ -3,9 +3,9 @@ use Rattle.std.specs.Prelude.{◌≡◌, ⊤, ℕ}
 use Rattle.persist_report_core.specs.declared.fault.CliFault.{CliFault}
 use Rattle.sum_commands.specs.declared.fault.InputFault.{InputFault}
 use Rattle.sum_commands.specs.declared.fault.InputFault.TheVariants as of_input
-use Rattle.persist_report_core.specs.declared.fault.CliFault.TheVariants.{Read, Write, TooLong, NotWords, Image, BadLine, Refused, Gate, Merge, NoThread, NoMemory, Adopt, NoSegment, NoHistogram, Bad, Stopped, Changed}
+use Rattle.persist_report_core.specs.declared.fault.CliFault.TheVariants.{Read, Write, TooLong, NotWords, Image, BadLine, Refused, Gate, Merge, NoThread, NoMemory, Adopt, NoSegment, NoHistogram, Bad, Stopped, Changed, Clash}
 use Rattle.report_streams.specs.declared.failure.Failure.{Failure}
-use Rattle.report_streams.specs.declared.failure.Failure.TheVariants.{Usage, Fault, Explained, Busy, Scale, Clash, Input, Since, TooMany, NotWhole, Left}
+use Rattle.report_streams.specs.declared.failure.Failure.TheVariants.{Usage, Fault, Explained, Busy, Scale, Input, Since, TooMany, NotWhole, Left}
 use Rattle.report_streams.specs.declared.lock.Unopened.{Unopened}
 use Rattle.report_streams.specs.declared.lock.Unopened.TheVariants as unopened
 
@@ -29,6 +29,7 @@ fault_status (NoHistogram name) = 3
 fault_status (Bad reference fault) = 3
 fault_status (Stopped fault) = 3
 fault_status Changed = 3
+fault_status (Clash first second) = 3
 
 -- that of a fault of an input: of one that is no totals, and of one with which a total would not fit, it is 3
 abbrev pub input_status : InputFault → ℕ
@@ -37,7 +38,7 @@ input_status (of_input.BadTotals line) = 3
 input_status of_input.TooMany = 3
 
 -- the status of a failure: 2 for a mistake in the command line, 4 for a file that another process has
--- locked, and 3 for a scale that has a fault, for families that clash, for a sum to subtract that is not part of the other, for a
+-- locked, and 3 for a scale that has a fault, for a sum to subtract that is not part of the other, for a
 -- difference that does not fit, for an image that is not whole, and for inputs that were left out
 abbrev pub failure_status : Failure → ℕ
 failure_status (Usage wrong) = 2
@@ -45,7 +46,6 @@ failure_status (Fault fault) = fault_status fault
 failure_status (Explained fault lines) = fault_status fault
 failure_status (Busy lines) = 4
 failure_status (Scale fault lines) = 3
-failure_status (Clash first second lines) = 3
 failure_status (Input fault name lines) = input_status fault
 failure_status (Since fault name lines) = 3
 failure_status (TooMany lines) = 3

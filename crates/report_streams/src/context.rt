@@ -16,12 +16,6 @@ pub struct Context<'r, R> {
     pub rt: &'r R,
     /// Whether faults are explained.
     pub explains: bool,
-    /// Whether an image that is not whole is a fault.
-    pub wants_whole: bool,
-    /// Whether the image that is read is a look at a file in use.
-    pub is_live: bool,
-    /// Where the segment that is looked at begins in its file: at a byte, or at the start.
-    pub at: Option<u64>,
 }
 
 impl<R: AllocGlobal> Context<'_, R> {

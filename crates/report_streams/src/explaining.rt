@@ -80,7 +80,7 @@ fn lines_of(
         CliFault::Bad { reference, fault } => bad_lines(alloc, known.input, *reference, *fault)?,
         CliFault::Stopped(fault) => stopped_lines(alloc, known.input, *fault)?,
         CliFault::Gate | CliFault::NoThread | CliFault::NoMemory => String::new(alloc),
-        CliFault::NoSegment | CliFault::Changed => String::new(alloc),
+        CliFault::NoSegment | CliFault::Changed | CliFault::Clash { .. } => String::new(alloc),
     };
     let more = remedy_lines(alloc, fault)?;
     lines.push_str(more.as_str())?;

@@ -27,12 +27,6 @@ pub enum Failure {
     Busy(String),
     /// The scale that it asks for has this fault. These lines follow, if there are any.
     Scale(SpecFault, String),
-    /// With `--families` these two would have metrics of one name. These lines follow, if there are any.
-    Clash {
-        first: Vec<u8>,
-        second: Vec<u8>,
-        lines: String,
-    },
     /// An input of several has this fault. These lines follow, if there are any.
     Input {
         fault: InputFault,
@@ -55,8 +49,8 @@ pub enum Failure {
 }
 
 impl Failure {
-    /// Returns the exit status: 2 for `Usage`, 4 for `Busy`, 3 for `Scale`, `Clash`, `Since`, `TooMany`, `NotWhole` and
-    /// `Left`, else that of the fault.
+    /// Returns the exit status: 2 for `Usage`, 4 for `Busy`, 3 for `Scale`, `Since`, `TooMany`, `NotWhole` and `Left`,
+    /// else that of the fault.
     pub fn status(&self) -> u8
         ensures { result ≡ failure_status self.now }
     {
@@ -65,7 +59,6 @@ impl Failure {
             Failure::Fault(fault) | Failure::Explained(fault, _) => fault_status(fault),
             Failure::Busy(_) => 4,
             Failure::Scale(_, _) => 3,
-            Failure::Clash { .. } => 3,
             Failure::Input { fault, .. } => input_status(fault),
             Failure::Since { .. } | Failure::TooMany(_) => 3,
             Failure::NotWhole(_) | Failure::Left => 3,
@@ -94,6 +87,7 @@ fn fault_status(fault: &CliFault) -> u8
         CliFault::Gate | CliFault::Merge { .. } | CliFault::Adopt(_) => 3,
         CliFault::NoSegment | CliFault::Changed => 3,
         CliFault::NoHistogram(_) | CliFault::Bad { .. } | CliFault::Stopped(_) => 3,
+        CliFault::Clash { .. } => 3,
         CliFault::Read | CliFault::Write => 4,
         CliFault::NoThread | CliFault::NoMemory => 5,
     }
@@ -131,16 +125,6 @@ impl fmt::Display for Failure {
             Failure::Explained(fault, lines) => write!(f, "persist_report: {fault}\n{lines}"),
             Failure::Busy(lines) => write!(f, "persist_report: Busy\n{lines}"),
             Failure::Scale(fault, lines) => write!(f, "persist_report: {fault}\n{lines}"),
-            Failure::Clash {
-                first,
-                second,
-                lines,
-            } => write!(
-                f,
-                "persist_report: Clash {} {}\n{lines}",
-                Shown(first),
-                Shown(second)
-            ),
             Failure::Input { fault, name, lines } => {
                 write!(f, "persist_report: {fault}: {name}\n{lines}")
             }

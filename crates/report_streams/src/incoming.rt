@@ -1,7 +1,6 @@
-//! What a command reads: a file, a part of one, standard input, or a look at a file.
+//! What a command reads: a file, a part of one, or standard input.
 
 use crate::part::Part;
-use std::collections::VecDeque;
 use std::io;
 use std::io::Read;
 
@@ -14,8 +13,6 @@ pub enum Incoming<F, I> {
     Part(Part<F>),
     /// Standard input.
     Standard(I),
-    /// The bytes of a look that are left.
-    Look(VecDeque<u8>),
 }
 
 impl<F: Read, I: Read> Read for Incoming<F, I> {
@@ -24,7 +21,6 @@ impl<F: Read, I: Read> Read for Incoming<F, I> {
             Incoming::File(file) => file.read(buf),
             Incoming::Part(part) => part.read(buf),
             Incoming::Standard(input) => input.read(buf),
-            Incoming::Look(bytes) => bytes.read(buf),
         }
     }
 }

@@ -86,6 +86,13 @@ impl<'a, T> Noted<'a, T> {
     }
 }
 
+impl<T: Drop> Noted<'_, T> {
+    /// The bytes that were read, if a copy was kept.
+    pub fn into_copy(self) -> Option<Vec<u8>> {
+        self.copy
+    }
+}
+
 impl<R: Read> Read for Noted<'_, R> {
     fn read(&mut self, buf: &mut [u8]) -> io::Result<usize> {
         self.is_used = true;

@@ -41,8 +41,10 @@ fn put_left(text: &mut Vec<u8>, left: u64) -> Result<(), AllocError>
     put_number_line(text, b"!left", left)
 }
 
-// Puts the lines after the report of a sum of this many images.
-fn put_ending(
+/// Puts the lines after the report of the reading of a sum: none if it is of one image at most and nothing was left out,
+/// and else how many images there are, each name and spec that the reading leaves out, with its images and units, and
+/// how many inputs were left out. The one error is that memory runs out.
+pub fn put_ending(
     text: &mut Vec<u8>,
     images: u64,
     others: &[OtherSpec],

@@ -14,7 +14,7 @@ mod totals;
 mod writing;
 mod wrong;
 
-pub use ending::report_of;
+pub use ending::{put_ending, report_of};
 pub use fault::TotalsFault;
 pub use laws::one_image_writes_the_same;
 pub use reading_back::totals_of;

@@ -8,12 +8,12 @@ use bucket_ranges::limits::MAX_UNITS;
 use image_reader::{Reading, read};
 use live_segment::{Opener, Segment};
 use persist_report_core::report_of;
-use reading_shows::{Form, write_text};
 use segment_image::{Watched, write_words};
 use segment_merge::{MergeReport, merge};
 use std::alloc::Global;
 use std::io;
 use std::io::Write;
+use text_forms::{Form, write_text};
 
 // The report of the bytes that the words are.
 fn show_report(rt: &impl Print, alloc: Global, words: &[u64]) -> Result<()> {

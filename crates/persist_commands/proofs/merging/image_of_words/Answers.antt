@@ -4,7 +4,10 @@ use Rattle.segment_image.specs.Head.{header_of}
 use Rattle.segment_image.specs.declared.head.SegmentHead.{SegmentHead}
 use Rattle.bucket_ranges.specs.Reading.{IsReading}
 use Rattle.image_reader.specs.Views.{reading_view}
+use Rattle.segment_image.specs.Words.{bytes_of_words}
+use Rattle.std.proofs.lemmas.Result.{err_from_is_err_and}
 use Rattle.persist_report_core.proofs.Answering.{header_taken}
+use Rattle.persist_commands.proofs.Headers.{header_cause}
 use Rattle.persist_commands.proofs.merging.image_of_words.Goals as goal
 
 pub returns-clause-image : goal.returns-clause-image
@@ -21,3 +24,12 @@ returns-clause-image c =
       head_is = head_is;
       reading_is = subst (λ (head : SegmentHead). IsReading words head (reading_view c.in_ok-reading.reading)) same taken.2;
     }
+
+pub returns-in_err-head-clause-cause : goal.returns-in_err-head-clause-cause
+returns-in_err-head-clause-cause c =
+    let p = err_from_is_err_and c.from_residual.result c.from_residual.ensures.1 in
+    let all = c.args.words.now in
+    let words = c.image_in-image.result.now in
+    let fit : All (λ word. word < 2 ^ 64) all = λ k d h. rw (get_or_default_zero all k d h) (omega (arith, c.type_inv.words k)) in
+    rw (p.1, p.2)
+    (header_cause (bytes_of_words all) words c.in_err-head.field-0.0 (record { all = all; fit = fit; bytes_are = refl; image_is = c.image_in-image.ensures }) (sym c.header.ensures ∙ c.in_err-head.was))

@@ -5,7 +5,8 @@ use Rattle.segment_image.specs.Watched.{has_failed, watched_inner}
 use Rattle.segment_image.specs.Words.{bytes_of_words}
 use Rattle.image_reader.specs.Views.{reading_view}
 use Rattle.segment_merge.specs.Image.{IsMergedImage}
-use Rattle.persist_commands.proofs.MergeOutcomes.{first_sound, merge_cause, not_failed, reads_well, second_cause, untouched, write_cause, write_told, written}
+use Rattle.persist_report_core.proofs.Answering.{untouched, write_told}
+use Rattle.persist_commands.proofs.MergeOutcomes.{first_sound, merge_cause, not_failed, reads_well, second_cause, write_cause, written}
 use Rattle.persist_commands.proofs.merging.merge_files.Goals as goal
 
 pub returns-in_err-second-clause-cause : goal.returns-in_err-second-clause-cause

@@ -18,8 +18,8 @@ returns c =
     let all : List HistReading = c.args.reading.now.hists.items in
     let moved = IsPermutation-map (λ one. histogram_view one.now) sorted listed (IsPermutation-sym listed sorted sort.permutation) in
     let ended = rw c.deref-hist-items.ensures.value at c.loop-hist-test.false in
-    let same : map (λ one. histogram_view one.now) listed ≡ filter (is_chosen c.args.choice) (map histogram_view all) =
-    c.loop-hist.invariant ∙ ap (λ some. filter (is_chosen c.args.choice) (map histogram_view some)) (take_all c.loop-hist.hist-index all ended) in
+    let same : map (λ one. histogram_view one.now) listed ≡ filter (is_chosen c.args.choice.now) (map histogram_view all) =
+    c.loop-hist.invariant ∙ ap (λ some. filter (is_chosen c.args.choice.now) (map histogram_view some)) (take_all c.loop-hist.hist-index all ended) in
     let name : Bor HistReading → List ℕ = λ one. one.now.name.items in record {
       same = subst (IsPermutation (map (λ one. histogram_view one.now) sorted)) same moved;
       ascending = IsSortedByKey-map (λ one. histogram_view one.now) (λ hist. hist.name) (slice_cmp nat_cmp) sorted

@@ -26,6 +26,6 @@ pub returns-clause-none : goal.returns-clause-none
 returns-clause-none c =
     let there : Bor (List ℕ) → Bool = is_there (reading_view c.args.reading.now) in
     let names = c.names_of-name-items.result.now in
-    let none : find (λ name. not (there name)) (names_of c.args.choice) ≡ None =
+    let none : find (λ name. not (there name)) (names_of c.args.choice.now) ≡ None =
     ap (find (λ name. not (there name))) (sym c.names_of-name-items.ensures ∙ sym (take_all c.loop-name.name-index names c.loop-name-test.false)) ∙ c.loop-name.invariant in
-    subst (λ (one : Option (Bor (List ℕ))). (is_some one ≡ false) ↔ AreAllThere c.args.choice (reading_view c.args.reading.now)) none (none-exactly there (names_of c.args.choice))
+    subst (λ (one : Option (Bor (List ℕ))). (is_some one ≡ false) ↔ AreAllThere c.args.choice.now (reading_view c.args.reading.now)) none (none-exactly there (names_of c.args.choice.now))

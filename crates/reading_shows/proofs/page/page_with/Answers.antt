@@ -16,17 +16,17 @@ pub put_sections-requires : goal.put_sections-requires
 put_sections-requires c =
     let hists = map (λ hist. histogram_view hist.now) c.in_ok-hists.hists.items in
     let all = map histogram_view c.args.reading.now.hists.items in
-    let some = filter (is_chosen c.args.choice) all in
+    let some = filter (is_chosen c.args.drawn.now.choice) all in
     rw c.as_slice-hists.ensures.value
-    (All-permutation IsReadable some hists (IsPermutation-sym hists some c.in_ok-hists.ensures.same) (All-filter (is_chosen c.args.choice) IsReadable all c.requires))
+    (All-permutation IsReadable some hists (IsPermutation-sym hists some c.in_ok-hists.ensures.same) (All-filter (is_chosen c.args.drawn.now.choice) IsReadable all c.requires))
 
 pub put_page_list-requires : goal.put_page_list-requires
 put_page_list-requires c =
     let hists = map (λ hist. histogram_view hist.now) c.in_ok-hists.hists.items in
     let all = map histogram_view c.args.reading.now.hists.items in
-    let some = filter (is_chosen c.args.choice) all in
+    let some = filter (is_chosen c.args.drawn.now.choice) all in
     rw c.as_slice-hists.ensures.value
-    (All-permutation IsReadable some hists (IsPermutation-sym hists some c.in_ok-hists.ensures.same) (All-filter (is_chosen c.args.choice) IsReadable all c.requires))
+    (All-permutation IsReadable some hists (IsPermutation-sym hists some c.in_ok-hists.ensures.same) (All-filter (is_chosen c.args.drawn.now.choice) IsReadable all c.requires))
 
 pub returns : goal.returns
 returns c =
@@ -41,7 +41,7 @@ returns c =
     let told = written-behind _ (page_overview c.args.lines.now) begun c.in_ok-put_page_overview.ensures in
     let named = written-behind _ (page_list hists) told listed in
     let opened = written-behind _ (codes "<main>\n") named c.in_ok-extend_from_slice.ensures.items in
-    let shown = written-behind _ (flat_map (section c.args.shows_all) (enumerate_from 0 hists)) opened sections in
+    let shown = written-behind _ (flat_map (section c.args.drawn.now.style.shows_all) (enumerate_from 0 hists)) opened sections in
     let behind = written-behind _ (codes "</main>\n<footer>") shown c.in_ok-extend_from_slice-2.ensures.items in
     let all = written-behind _ (ending hists reading) behind ended in
     (hists, c.in_ok-hists.ensures, written-behind _ (codes "</footer>\n</body>\n</html>\n") all c.in_ok-extend_from_slice-3.ensures.items)

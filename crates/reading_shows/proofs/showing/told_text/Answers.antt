@@ -14,14 +14,14 @@ pub put_histograms-requires : goal.put_histograms-requires
 put_histograms-requires c =
     let hists = map (λ hist. histogram_view hist.now) c.in_ok-hists.hists.items in
     let all = map histogram_view c.args.reading.now.hists.items in
-    let some = filter (is_chosen c.args.choice) all in
+    let some = filter (is_chosen c.args.drawn.now.choice) all in
     rw c.as_slice.ensures.value
-    (All-permutation IsReadable some hists (IsPermutation-sym hists some c.in_ok-hists.ensures.same) (All-filter (is_chosen c.args.choice) IsReadable all c.requires))
+    (All-permutation IsReadable some hists (IsPermutation-sym hists some c.in_ok-hists.ensures.same) (All-filter (is_chosen c.args.drawn.now.choice) IsReadable all c.requires))
 
 pub returns : goal.returns
 returns c =
     let hists = map (λ hist. histogram_view hist.now) c.in_ok-hists.hists.items in
     let shown = rw c.as_slice.ensures.value at c.in_ok-put_histograms.ensures in
     let ended = rw c.as_slice-2.ensures.value at c.in_ok-put_ending.ensures in
-    let begun : c.put_histograms.new.text.items ≡ flat_map (histogram_text c.args.style (since_view c.args.since)) hists = shown ∙ ap (λ s. s ++ flat_map (histogram_text c.args.style (since_view c.args.since)) hists) c.new-text.ensures.items in
+    let begun : c.put_histograms.new.text.items ≡ flat_map (histogram_text c.args.drawn.now.style (since_view c.args.since)) hists = shown ∙ ap (λ s. s ++ flat_map (histogram_text c.args.drawn.now.style (since_view c.args.since)) hists) c.new-text.ensures.items in
     (hists, c.in_ok-hists.ensures, written-behind _ _ begun ended)

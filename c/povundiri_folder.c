@@ -173,7 +173,7 @@ void povundiri_parts_name_of(char *name, uint64_t number, const char *kind) {
     snprintf(name, LONGEST_NAME, "%010" PRIu64 ".%s", number, kind);
 }
 
-/* The number of a file of this kind, as it is spelled; 0 if it is none. */
+/* The number of a file of this kind, as it is spelled; 0 if it is none, or has more than 18 digits. */
 static uint64_t number_of(const char *name, const char *kind) {
     char spelled[LONGEST_NAME];
     char *end;
@@ -181,7 +181,7 @@ static uint64_t number_of(const char *name, const char *kind) {
     if (name[0] < '0' || name[0] > '9') return 0;
     errno = 0;
     number = strtoull(name, &end, 10);
-    if (errno != 0 || number == 0 || *end != '.') return 0;
+    if (errno != 0 || number == 0 || number >= NUMBERS_END || *end != '.') return 0;
     povundiri_parts_name_of(spelled, number, kind);
     return strcmp(spelled, name) == 0 ? number : 0;
 }

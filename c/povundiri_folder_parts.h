@@ -11,6 +11,9 @@
 /* The most bytes of a segment's file: its words, the one before them and those of eight cursors, in whole units of 16 bytes. */
 enum { MOST_BYTES = WORD * MOST_WORDS + 80, LONGEST_NAME = 64 };
 
+/* The least number with more than 18 digits, which is no segment's. */
+#define NUMBERS_END UINT64_C(1000000000000000000)
+
 /* Faults of this library, beside those of the system, which are above 0. */
 enum { FAULT_FOLDER_IN_USE = -1, FAULT_NO_RECORDING = -2, FAULT_NOT_OWNER = -3 };
 

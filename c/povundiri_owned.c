@@ -256,7 +256,7 @@ uint32_t povundiri_folder_spare(struct povundiri_place *place, struct povundiri_
     return status;
 }
 
-/* The number after those of all segments that are there, and of all that the totals name. */
+/* The number after those of all segments that are there, and of all that the totals name; EOVERFLOW: none is left. */
 static int next_number(int folder, uint64_t *number) {
     struct povundiri_listing listing;
     struct povundiri_totals_file totals;
@@ -266,11 +266,11 @@ static int next_number(int folder, uint64_t *number) {
     if (fault != 0) return fault;
     fault = povundiri_parts_totals(folder, &totals);
     for (i = 0; i < totals.count; i += 1) {
-        if (totals.of[i].number > listing.last) listing.last = totals.of[i].number;
+        if (totals.of[i].number > listing.last && totals.of[i].number < NUMBERS_END) listing.last = totals.of[i].number;
     }
     povundiri_parts_free(&totals);
     *number = listing.last + 1;
-    return fault;
+    return fault == 0 && *number >= NUMBERS_END ? EOVERFLOW : fault;
 }
 
 /* Gives a spare a name. The next spares have names from the beginning where one without a name gets none: there may be no /proc, or no
@@ -294,7 +294,7 @@ int povundiri_folder_commit(struct povundiri_place *place, struct povundiri_owne
         povundiri_parts_name_of(name, number, "seg");
         fault = link_to(place, spare, name);
         if (fault == EEXIST) number += 1;
-    } while (fault == EEXIST);
+    } while (fault == EEXIST && number < NUMBERS_END);
     if (fault != 0) return fault;
     if (spare->name[0] != 0) unlinkat(folder_of(place), spare->name, 0);
     spare->number = number;

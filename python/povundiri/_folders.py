@@ -21,7 +21,7 @@ from ._totals import Totals, totals_of
 MARK, TOTALS = "recording", "totals"
 # The files of a folder that have no counts beside those of its segments and its totals.
 OWN = frozenset([MARK, TOTALS, "totals.new", "fold.lock"])
-SEGMENT_NAME = re.compile(r"([0-9]{10,20})\.seg")
+SEGMENT_NAME = re.compile(r"([0-9]{10,18})\.seg")
 # The bytes from which an id is read: a word of zeros, and the words of a header up to it.
 FRONT = 8 * (1 + ID + 1)
 # How often a reading begins.
@@ -42,7 +42,7 @@ def number_in(name: str) -> Optional[int]:
     """The number of the segment whose file has this name, or None."""
     found = SEGMENT_NAME.fullmatch(name)
     number = int(found[1]) if found else 0
-    return number if 0 < number < 2**64 and name == f"{number:010}.seg" else None
+    return number if number > 0 and name == f"{number:010}.seg" else None
 
 
 def listed_in(folder: str) -> tuple[list[Listed], tuple[str, ...]]:

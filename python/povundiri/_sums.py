@@ -21,7 +21,7 @@ LISTS = ("damage", "added", "left_out", "passed_over")
 
 
 def key_of(one: Histogram) -> Key:
-    return one.name.encode("utf-8", "surrogateescape"), KINDS.index(one.spec.kind), one.spec.numbers
+    return one.name.encode(), KINDS.index(one.spec.kind), one.spec.numbers
 
 
 def of_64_bits(numbers: Iterable[int]) -> array[int]:

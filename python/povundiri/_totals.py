@@ -14,11 +14,12 @@ from ._sums import key_of, sum_of
 
 TOTALS_FRONT = b"totals,1\n"
 
-# The fields of a line: a number, one with a sign, and the lines of these.
+# The fields of a line: a name that a segment can have, a number, one with a sign, and the lines of these.
+NAME = rb"((?!!)[!#-+\--~]{1,128})"
 NUMBER, SIGNED = rb"(0|[1-9][0-9]{0,19})", rb"(0|-?[1-9][0-9]{0,38})"
 IMAGES_LINE = re.compile(b",".join([b"images", *5 * [NUMBER]]))
 KIND = rb"(linear|boolean|custom|sparse)([,0-9]*)"
-HISTOGRAM_LINE = re.compile(b",".join([b"hist", rb"([^,]*)", NUMBER, NUMBER, SIGNED, SIGNED, NUMBER, KIND]))
+HISTOGRAM_LINE = re.compile(b",".join([b"hist", NAME, NUMBER, NUMBER, SIGNED, SIGNED, NUMBER, KIND]))
 SPEC_NUMBERS = re.compile(rb"(?:,(?:0|[1-9][0-9]{0,9}))*")
 KEY_LINE = re.compile(b",".join([b"key", SIGNED, NUMBER, NUMBER]))
 SEGMENT_LINE = re.compile(b",".join([b"of", NUMBER, NUMBER]))
@@ -100,8 +101,7 @@ def histogram_in(lines: Lines, fields: tuple[bytes, ...]) -> tuple[Histogram, bo
         keys.append(lines.number_in(key[0], SIGNED_32))
         units.append(lines.number_in(key[1]))
         marks.append(lines.number_in(key[2]))
-    shown = name.decode("utf-8", "surrogateescape")
-    found = Histogram(shown, spec, sum(units), sums, counts[0], counts[1], counts[2], lambda: (keys, units, marks))
+    found = Histogram(name.decode(), spec, sum(units), sums, counts[0], counts[1], counts[2], lambda: (keys, units, marks))
     return found, are_whole(spec, keys) and found.units in OF_64_BITS
 
 

@@ -163,6 +163,32 @@ void options_garbage() {
     HOLDS(units_in(recording.report(), "latency") == 1 && recording.missed() == 0);
 }
 
+// A file that is numbered above all that segments can have: the next number is that after the last segment's.
+void stray_number() {
+    for (const char* const name : {"18446744073709551615.damaged", "18446744073709551615.seg", "1000000000000000000.seg"}) {
+        const std::string path = folder(name);
+        Recording recording, again;
+        HOLDS(opens(path, recording) && recording.began().number == 1);
+        recording.end();
+        std::FILE* const file = std::fopen((path + "/" + name).c_str(), "w");
+        HOLDS(file != nullptr && std::fclose(file) == 0 && std::remove((path + "/0000000001.seg").c_str()) == 0);
+        HOLDS(opens(path, recording) && recording.began().number == 1 && recording.linear("latency", 1, 1000, 10).add(5, 1000));
+        HOLDS(units_in(recording.report(), "latency") == 1000);
+        recording.end();
+        HOLDS(opens(path, again) && units_in(again.report(), "latency") == 1000);
+    }
+}
+
+// Where no number is left, no segment is begun.
+void last_number() {
+    const std::string path = folder("last");
+    Recording recording;
+    HOLDS(opens(path, recording));
+    recording.end();
+    HOLDS(std::rename((path + "/0000000001.seg").c_str(), (path + "/999999999999999999.damaged").c_str()) == 0);
+    HOLDS(opens(path, recording) && recording.began().number == 0 && recording.began().fault == EOVERFLOW);
+}
+
 std::ptrdiff_t descriptors() { return std::distance(files::directory_iterator("/proc/self/fd"), files::directory_iterator()); }
 
 // Threads of a pool are idle, each in a segment of its own, which no fold takes: no descriptor for any of them.
@@ -317,6 +343,8 @@ int run() {
     failed += of_root("other_user, a fold", fold_of_root);
     failed += of_root("other_user, a run", run_of_root);
     failed += group("options_garbage", options_garbage);
+    failed += group("stray_number", stray_number);
+    failed += group("last_number", last_number);
     failed += group("idle_threads", idle_threads);
     failed += of_root("full_disk_fold", full_disk_fold);
     failed += group("cardinality", cardinality);

@@ -48,6 +48,9 @@ OTHERS = (
     "0000000005.seg~",
     "0000000005.SEG",
     ".seg",
+    "1000000000000000000.seg",
+    "18446744073709551615.seg",
+    "18446744073709551615.damaged",
     "18446744073709551616.seg",
 )
 # The example of totals in FORMAT: what its first and its second image have, as scripts, and the report of both. The
@@ -266,13 +269,13 @@ def example(program: pathlib.Path, top: pathlib.Path) -> Iterator[Case]:
 def great_numbers(program: pathlib.Path, top: pathlib.Path) -> Iterator[Case]:
     """Segments with great numbers, also the greatest, are folded; with the greatest serial there is no fold."""
     path, crash = made(top / "great"), CRASH.read_bytes()
-    for number in (2**32, 2**64 - 1):
+    for number in (2**32, 10**18 - 1):
         put(path, number, mapped(with_id(crash, number)))
     for name in OTHERS:
         (path / name).write_bytes(mapped(crash))
     before = Folder.at(path)
     wanted = before.folded()[0]
-    yield "great numbers", None if sorted(before.segments) == [2**32, 2**64 - 1] else f"{sorted(before.segments)}"
+    yield "great numbers", None if sorted(before.segments) == [2**32, 10**18 - 1] else f"{sorted(before.segments)}"
     yield "great numbers, a fold", difference(Answer(), answer(program, ["fold", path]))
     yield "great numbers, what is there then", wrong_files(path, wanted)
     put(path, 3, mapped(with_id(crash, 3)))

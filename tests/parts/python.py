@@ -57,9 +57,6 @@ with open(sys.argv[1], "r+b") as file, mmap.mmap(file.fileno(), 0) as mapped:
                 words[at] = word
 """
 VERSION = 2
-# Totals with a name of UTF-8 and one of another byte, in the order of the bytes, which is none of letters.
-OTHER_NAMES = "totals,1\nimages,1,0,0,0,0\nhist,\U0001f600,1,0,0,0,0,sparse\nhist,\udcff,1,0,0,0,0,sparse\nend,2\n"
-
 # Mistakes in the package: what is wrong, and of which file which words are which others.
 WRONG = [
     ("the shift of a single word", "_images.py", "divmod(rest, 2**32)", "divmod(rest, 2**31)"),
@@ -203,17 +200,14 @@ def summed(package: Package, seed: int | str) -> Iterator[Case]:
 
 
 def totals_by_hand(package: Package) -> Iterator[Case]:
-    """Totals at the ends of numbers, the example of FORMAT, names of any bytes, and texts that are none."""
+    """Totals at the ends of numbers, the example of FORMAT, and texts that are none, as with names that no segment can have."""
     ends = package.decode_totals(sums.ENDS + b"of,3,77\nof,4,18446744073709551615\nfold,4\nend,3\n")
     yield "totals at the ends of numbers", unlike(sums.ENDS + b"end,3\n", python_texts.totals_of(ends))
     yield "their report", unlike(sums.REPORT_OF_ENDS, python_texts.report_of(ends))
     example = folders.example_of_totals()
     yield "the example of FORMAT", unlike(example, python_texts.totals_of(package.decode_totals(example)))
-    text = OTHER_NAMES.encode("utf-8", "surrogateescape")
-    came = faulted(lambda: python_texts.totals_of(package.decode_totals(text)), package)
-    yield "names of any bytes", None if came == text else str(came)
-    for none, line in sums.NO_TOTALS:
-        came = faulted(lambda: package.decode_totals(plain_sums.TOTALS + none.encode()), package)
+    for none, line in sums.no_totals():
+        came = faulted(lambda: package.decode_totals(plain_sums.TOTALS + none), package)
         yield f"no totals, {none!r}", None if came == f"BadTotals {line}" else f"wanted line {line}, came {came}"
     lines = plain_sums.totals_text(plain_sums.of_image(CRASH.read_bytes())).splitlines(True)
     for number in range(1, len(lines) + 1):

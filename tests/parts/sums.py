@@ -102,6 +102,24 @@ NO_TOTALS = [
     ("images,1,0,0,0,0\nhist,B,1,0,0,0,0,boolean\nkey,0,2,0\nend,1\n", 3),
     ("images,1,0,0,0,0\nhist,B,1,0,0,0,0,boolean\nkey,-7,1,0\nkey,3,2,0\nend,1\n", 3),
 ]
+# Names that a segment can have, and some that none can.
+NAMES = (b"A", b"~" * 128, b"a!b", b"#;|\\'`")
+NO_NAMES = (
+    b"", b"!A", b'A"', b'"', b"A B", b"A\0", b"\0", b"\x1b[31mA", b"A\x7f", b"\t", b"A\r", b"\xff", b"\xf0\x9f\x98\x80", b"~" * 129,
+)
+
+
+def of_name(name: bytes) -> bytes:
+    """Lines after the first one of totals with one histogram, of this name."""
+    return b"images,1,0,0,0,0\nhist," + name + b",1,0,0,0,0,sparse\nkey,3,2,0\nend,1\n"
+
+
+def no_totals() -> Iterator[tuple[bytes, int]]:
+    """Lines after the first one of texts that are no totals, each with the number of the line that is reported."""
+    for text, line in NO_TOTALS:
+        yield text.encode(), line
+    for name in NO_NAMES:
+        yield of_name(name), 3
 
 
 def text_of(data: bytes, **options: object) -> bytes:
@@ -529,10 +547,14 @@ def by_hand(program: pathlib.Path, top: pathlib.Path) -> Iterator[Case]:
     yield "totals at the ends of numbers", difference(Answer(ENDS + b"end,3\n"), came)
     yield "their report", difference(Answer(REPORT_OF_ENDS), answer(program, ["report", written]))
     wrong = top / "none.tot"
-    for text, line in NO_TOTALS:
-        wrong.write_bytes(plain_sums.TOTALS + text.encode())
+    for text, line in no_totals():
+        wrong.write_bytes(plain_sums.TOTALS + text)
         came = answer(program, ["report", wrong])
         yield f"totals by hand, {text!r}", difference(fault(f'BadTotals {line}: "{wrong}"', 3), came)
+    for name in NAMES:
+        written.write_bytes(plain_sums.TOTALS + of_name(name))
+        came = answer(program, ["report", written, "--totals"])
+        yield f"totals with the name {name!r}", difference(Answer(written.read_bytes()), came)
 
 
 def since_by_hand(program: pathlib.Path, top: pathlib.Path) -> Iterator[Case]:

@@ -34,7 +34,7 @@ def name_of(number: int) -> str:
 def number_of(name: str) -> int | None:
     """The number of a segment whose file has this name, or None."""
     digits, _, ending = name.rpartition(".")
-    if ending != "seg" or not digits.isascii() or not digits.isdigit() or not 0 < int(digits) < 2**64:
+    if ending != "seg" or not digits.isascii() or not digits.isdigit() or not 0 < int(digits) < 10**18:
         return None
     return int(digits) if name_of(int(digits)) == name else None
 

@@ -136,9 +136,16 @@ def read_counts(lines: Lines) -> list[int]:
     return counts
 
 
+def is_name(name: bytes) -> bool:
+    """Whether a histogram in a segment can have this name."""
+    return 1 <= len(name) <= 128 and all(0x21 <= byte <= 0x7E and byte not in b',"' for byte in name) and name[0] != 0x21
+
+
 def part_of(fields: Sequence[str]) -> tuple[tuple[bytes, Spec], Part]:
     """The name and the spec that the line of a histogram says, and what it has beside its keys."""
     name, images, least, amounts, taken, redundant, kind, *behind = fields
+    if not is_name(name.encode("latin-1")):
+        raise ValueError
     spec = (NUMBERS[kind], *(number(text, 0, 2**32 - 1) for text in behind))
     if len(behind) != {LINEAR: 3, BOOLEAN: 0, CUSTOM: len(behind), SPARSE: 0}[spec[0]]:
         raise ValueError

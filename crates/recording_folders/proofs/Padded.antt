@@ -10,7 +10,11 @@ use Rattle.std.proofs.lemmas.Option.{none-some, same_Some}
 use Rattle.std.proofs.lemmas.List.{get_or-append-add, get_or_append_left}
 use Rattle.std.proofs.lemmas.Str.{IsUtf8-from_ascii}
 use Rattle.std.proofs.lemmas.Str.Parse.{IsNumeralModel, numerals_by_fold, parse_gives, not_in_digits}
-use Rattle.recording_folders.specs.Names.{padded, numbered}
+use Rattle.recording_folders.specs.Names.{IsNumber, padded, numbered}
+
+-- a number of at most 18 digits has 64 bits
+pub has_64_bits : (n : ℕ) → IsNumber n → n < 2 ^ 64
+has_64_bits n number = omega (arith, number.high)
 
 -- the number that digits write, after what was read already
 abbrev read_on : ℕ → List ℕ → ℕ

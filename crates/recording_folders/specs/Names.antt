@@ -4,10 +4,10 @@ use Rattle.std.specs.Fmt.{decimal}
 use Rattle.recording_folders.specs.declared.kind.FileKind.{FileKind}
 use Rattle.recording_folders.specs.declared.kind.FileKind.TheVariants.{Segment, Damaged, Spare, Totals, NewTotals, FoldLock, Mark, Other}
 
--- segments are numbered from 1, in 64 bits
+-- segments are numbered from 1, with at most 18 digits
 pub record IsNumber (number : ℕ) : Type 0 where
   pub low : 0 < number
-  pub high : number < 2 ^ 64
+  pub high : number < 10 ^ 18
 
 -- the digits of a number, with zeros before them if they are fewer than ten
 abbrev pub padded : ℕ → List ℕ

@@ -61,8 +61,8 @@ fn kind_without_number(name: &[u8]) -> FileKind
 }
 
 /// Returns the kind of a file by its name. If it is not `Other`, the name is one of that kind [found]. Each name of a
-/// kind has that kind, so the name of a number is recognized as that number [only]. The only error is that memory runs
-/// out.
+/// kind has that kind, so the name of a number is recognized as that number [only]. The numbers of segments have at most
+/// 18 digits. The only error is that memory runs out.
 pub fn kind_of(alloc: Global, name: &[u8]) -> Result<FileKind, AllocError>
     ensures found { IfOk result (λ kind. (kind ≡ Other) ⊎ IsNameOf name.now kind) }
     ensures only { (kind : file_kind.FileKind) → IsNameOf name.now kind → IfOk result (λ found. found ≡ kind) }

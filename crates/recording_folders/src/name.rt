@@ -16,6 +16,9 @@ pub(crate) const DAMAGED: &[u8] = b".damaged";
 // The least number of digits in a name.
 const DIGITS: usize = 10;
 
+// The least number that has more than 18 digits, which is no segment's.
+const NUMBERS_END: u64 = 1_000_000_000_000_000_000;
+
 // The name of a number, with an ending.
 fn numbered(alloc: Global, number: u64, ending: &[u8]) -> Result<Vec<u8>, AllocError>
     ensures { IfOk result (λ name. name.items ≡ name_with number ending.now) }
@@ -53,7 +56,7 @@ fn parsed(digits: &[u8]) -> Option<u64>
     text.parse::<u64>().ok()
 }
 
-/// Returns the number that has this name with this ending, if there is one.
+/// Returns the number that has this name with this ending, if there is one. A number of more than 18 digits is none.
 pub(crate) fn number_in(
     alloc: Global,
     name: &[u8],
@@ -68,7 +71,7 @@ pub(crate) fn number_in(
     let Some(number) = parsed(&name[..name.len() - ending.len()]) else {
         return Ok(None);
     };
-    if number == 0 {
+    if number == 0 || number >= NUMBERS_END {
         return Ok(None);
     }
     let spelled = numbered(alloc, number, ending)?;

@@ -114,6 +114,11 @@ pub key_blocks : (keys : List KeySum) → map line_bytes (map key_fields keys) �
 key_blocks [] = refl
 key_blocks (key ∷ keys) = ap (λ lines. line_bytes (key_fields key) ∷ lines) (key_blocks keys)
 
+-- what holds of some elements and of one more
+pub all_more : {X : Type 0} (P : X → Type 0) (xs : List X) (x : X) → AllByRecursion P xs → P x → AllByRecursion P (xs ++ x ∷ [])
+all_more P [] x all more = (more, tt)
+all_more P (y ∷ xs) x all more = (all.0, all_more P xs x all.1 more)
+
 -- ---- readers that fail
 
 -- because memory ran out

@@ -1,7 +1,11 @@
 -- Which bytes the fields of lines lack.
-use Rattle.std.proofs.Common.{◌≡◌, ℕ, ◌<◌, ◌^◌, List, [], ◌∷◌, codes, eqb, false, arith, rules}
+use Rattle.std.proofs.Common.{◌≡◌, ℕ, ◌<◌, ◌≤◌, ◌^◌, ◌&&◌, ◌==◌, Bool, true, not, List, [], ◌∷◌, length, codes, eqb, false, refl, arith, rules}
+use Rattle.std.specs.Prelude.{nat_le, slice_index}
+use Rattle.std.specs.Cmp.{first_so, second_so}
+use Rattle.std.proofs.lemmas.Bool.{leb-true, false≢true}
+use Rattle.bucket_ranges.specs.Reading.{is_name, is_name_byte}
 use Rattle.std.proofs.lemmas.Bool.Decides.{nat_tests}
-use Rattle.std.specs.List.{AllByRecursion}
+use Rattle.std.specs.List.{AllByRecursion, list_all}
 use Rattle.reading_sums.specs.declared.key.KeySum.{KeySum}
 use Rattle.reading_sums.specs.declared.notes.Notes.{Notes}
 use Rattle.reading_sums.specs.Totals.{Part}
@@ -72,17 +76,37 @@ lacks_hist c part small named fits = (
   ),
 )
 
--- a plain name has no comma and no line feed
-pub no_comma : (name : List ℕ) → AllByRecursion (λ byte. (byte ≡ 44 → ⊥) × (byte ≡ 10 → ⊥)) name → Lacks 44 name
-no_comma [] plain = tt
-no_comma (byte ∷ name) plain = (differs byte 44 plain.0.0, no_comma name plain.1)
-  where
-    differs : (b c : ℕ) → (b ≡ c → ⊥) → eqb b c ≡ false
-    differs b c other = grind (arith, nat_tests)
+-- ---- names
 
-pub no_feed : (name : List ℕ) → AllByRecursion (λ byte. (byte ≡ 44 → ⊥) × (byte ≡ 10 → ⊥)) name → Lacks 10 name
-no_feed [] plain = tt
-no_feed (byte ∷ name) plain = (differs byte 10 plain.0.1, no_feed name plain.1)
+visible : (byte : ℕ) → is_name_byte byte ≡ true → (eqb byte 44 ≡ false) × (10 < byte)
+visible byte lawful =
+    let front = first_so (nat_le 0x21 byte && nat_le byte 0x7E && not (byte == 0x2C)) _ lawful in
+    let least : 0x21 ≤ byte = leb-true _ _ (first_so (nat_le 0x21 byte) _ (first_so (nat_le 0x21 byte && nat_le byte 0x7E) _ front)) in
+    (not-true (byte == 0x2C) (second_so (nat_le 0x21 byte && nat_le byte 0x7E) _ front), omega arith)
   where
-    differs : (b c : ℕ) → (b ≡ c → ⊥) → eqb b c ≡ false
-    differs b c other = grind (arith, nat_tests)
+    not-true : (b : Bool) → not b ≡ true → b ≡ false
+    not-true false is = refl
+    not-true true is = absurd (false≢true is)
+
+all_lack_commas : (name : List ℕ) → list_all is_name_byte name ≡ true → Lacks 44 name
+all_lack_commas [] lawful = tt
+all_lack_commas (byte ∷ name) lawful =
+    ((visible byte (first_so (is_name_byte byte) _ lawful)).0, all_lack_commas name (second_so (is_name_byte byte) _ lawful))
+
+all_lack_feeds : (name : List ℕ) → list_all is_name_byte name ≡ true → Lacks 10 name
+all_lack_feeds [] lawful = tt
+all_lack_feeds (byte ∷ name) lawful =
+    (differs byte (visible byte (first_so (is_name_byte byte) _ lawful)).1, all_lack_feeds name (second_so (is_name_byte byte) _ lawful))
+  where
+    differs : (b : ℕ) → 10 < b → eqb b 10 ≡ false
+    differs b more = grind (arith, nat_tests)
+
+bytes_of_name : (name : List ℕ) → is_name name ≡ true → list_all is_name_byte name ≡ true
+bytes_of_name name lawful = second_so (nat_le 1 (length name) && nat_le (length name) 128 && not (slice_index name 0 == 0x21)) _ lawful
+
+-- a name has no comma and no line feed
+pub no_comma : (name : List ℕ) → is_name name ≡ true → Lacks 44 name
+no_comma name lawful = all_lack_commas name (bytes_of_name name lawful)
+
+pub no_feed : (name : List ℕ) → is_name name ≡ true → Lacks 10 name
+no_feed name lawful = all_lack_feeds name (bytes_of_name name lawful)

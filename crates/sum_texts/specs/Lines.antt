@@ -1,8 +1,9 @@
 -- The lines of a totals, each as its fields.
-use Rattle.std.specs.Prelude.{◌≢◌, ℕ, ◌<◌, ◌^◌, List, [], ◌∷◌, ◌++◌, map, length, codes, Option, Some, None, FitsSigned, IfSome}
+use Rattle.std.specs.Prelude.{◌≡◌, true, ℕ, ◌<◌, ◌^◌, List, [], ◌∷◌, ◌++◌, map, length, codes, Option, Some, None, FitsSigned, IfSome}
 use Rattle.std.specs.Fmt.{decimal, signed_decimal}
 use Rattle.std.specs.Int.{w32, w128}
 use Rattle.std.specs.List.{flat_map, join_with_byte, AllByRecursion}
+use Rattle.bucket_ranges.specs.Reading.{is_name}
 use Rattle.bucket_ranges.specs.declared.spec.Spec.{Spec}
 use Rattle.bucket_ranges.specs.declared.spec.Spec.TheVariants.{Linear, Boolean, Custom, Sparse}
 use Rattle.reading_texts.specs.Text.{kind_word}
@@ -111,13 +112,13 @@ pub record FitsKey (key : KeySum) : Type 0 where
   pub units : key.units < 2 ^ 64
   pub marks : key.marks < 2 ^ 64
 
--- a name has neither a comma nor a line feed
-abbrev pub IsPlain : List ℕ → Type 0
-IsPlain name = AllByRecursion (λ byte. (byte ≢ 44) × (byte ≢ 10)) name
+-- a part has a name that a histogram in a segment can have
+abbrev pub IsNamed : Part → Type 0
+IsNamed part = is_name part.name ≡ true
 
--- the numbers of a part fit, and its name is plain
+-- the numbers of a part fit, and a histogram can have its name
 pub record FitsPart (part : Part) : Type 0 where
-  pub name : IsPlain part.name
+  pub name : IsNamed part
   pub numbers : AllByRecursion (λ number. number < 2 ^ 32) (spec_numbers part.spec)
   pub keys : AllByRecursion FitsKey part.keys
   pub sum : FitsSigned w128 part.sum
@@ -130,7 +131,7 @@ pub record FitsPart (part : Part) : Type 0 where
 abbrev pub FitsSegment : ℕ × ℕ → Type 0
 FitsSegment segment = (segment.0 < 2 ^ 64) × (segment.1 < 2 ^ 64)
 
--- all numbers fit, and the names are plain
+-- all numbers fit, and histograms can have the names
 pub record FitsWhole (whole : Whole) : Type 0 where
   pub notes : FitNotes whole.notes
   pub parts : AllByRecursion FitsPart whole.parts

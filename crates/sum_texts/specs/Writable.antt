@@ -8,7 +8,7 @@ use Rattle.sum_texts.specs.declared.totals.Totals.{Totals}
 use Rattle.sum_texts.specs.Lines.{Whole, FitsWhole, part_lines}
 use Rattle.sum_texts.specs.Views.{whole_of}
 
--- a totals of a well-formed sum, whose names are plain and whose numbers fit
+-- a totals of a well-formed sum, whose names are those of histograms in segments and whose numbers fit
 pub record IsWritable (totals : Totals) : Type 0 where
   pub formed : IsWellFormed totals.sums
   pub fits : FitsWhole (whole_of totals)

@@ -1,8 +1,9 @@
 //! What the fields of a line say.
 
-ghost use Rattle.std.specs.Prelude.{◌≡◌, ◌<◌, ◌≤◌, ◌^◌, ◌∷◌, ℕ, List, [], Some, IfOk, IfSome, IsSomeAnd, map, option_map, length, drop, codes};
+ghost use Rattle.std.specs.Prelude.{◌≡◌, true, ◌<◌, ◌≤◌, ◌^◌, ◌∷◌, ℕ, List, [], Some, IfOk, IfSome, IsSomeAnd, map, option_map, length, drop, codes};
 ghost use Rattle.std.specs.Fmt.{decimal, signed_decimal};
 ghost use Rattle.std.specs.List.{AllByRecursion};
+ghost use Rattle.bucket_ranges.specs.Reading.{is_name};
 ghost use Rattle.bucket_ranges.specs.declared.spec.Spec as spec_type;
 ghost use Rattle.reading_sums.specs.declared.key.KeySum as key_type;
 ghost use Rattle.reading_sums.specs.declared.notes.Notes as notes_type;
@@ -12,6 +13,7 @@ ghost use Rattle.reading_texts.specs.Text.{kind_word};
 ghost use Rattle.sum_texts.specs.Lines.{spec_numbers, key_fields, hist_fields, notes_fields, segment_fields, fold_fields, end_fields, FitsKey, FitNotes, FitsPart, FitsSegment};
 ghost use Rattle.sum_texts.specs.Runs.{bytes_of, without_keys};
 
+use crate::name::is_lawful_name;
 use crate::number::{amount_in, number_in, small_number_in, value_in};
 use bucket_ranges::{CustomValues, Spec};
 use reading_sums::{HistSum, KeySum, Notes};
@@ -179,16 +181,32 @@ fn front_in<'a>(fields: &[&'a [u8]]) -> Option<Front<'a>>
     })
 }
 
-/// Returns the name with its spec in the fields of a line, if they are those of one. It has no keys yet.
+// The same, if a histogram can have the name.
+fn named_front_in<'a>(fields: &[&'a [u8]]) -> Option<Front<'a>>
+    requires { 8 ≤ length fields.now }
+    ensures found { IfSome result (λ front. bytes_of fields.now ≡ codes "hist" ∷ front.name.now ∷ decimal front.images ∷ decimal front.least ∷ signed_decimal front.sum ∷ signed_decimal front.sum_mark ∷ decimal front.redundant ∷ bytes_of (drop 7 fields.now)) }
+    ensures lawful { IfSome result (λ front. is_name front.name.now ≡ true) }
+    ensures only { (part : Part) → FitsPart part → bytes_of fields.now ≡ hist_fields part → IsSomeAnd result (λ front. (front.name.now ≡ part.name) × (front.images ≡ part.images) × (front.least ≡ part.least) × (front.sum ≡ part.sum) × (front.sum_mark ≡ part.sum_mark) × (front.redundant ≡ part.redundant)) }
+{
+    let front = front_in(fields)?;
+    if !is_lawful_name(front.name) {
+        return None;
+    }
+    Some(front)
+}
+
+/// Returns the name with its spec in the fields of a line, if they are those of one, and a histogram can have the name.
+/// It has no keys yet.
 pub(crate) fn hist_in(alloc: Global, fields: &[&[u8]]) -> Result<Option<HistSum>, AllocError>
     ensures found { IfOk result (λ hist. IfSome hist (λ hist. bytes_of fields.now ≡ hist_fields (part_of hist))) }
+    ensures lawful { IfOk result (λ hist. IfSome hist (λ hist. is_name hist.name.items ≡ true)) }
     ensures keys { IfOk result (λ hist. IfSome hist (λ hist. hist.keys.items ≡ [])) }
     ensures only { (part : Part) → FitsPart part → bytes_of fields.now ≡ hist_fields part → IfOk result (λ hist. option_map part_of hist ≡ Some (without_keys part)) }
 {
     if fields.len() < 8 {
         return Ok(None);
     }
-    let Some(front) = front_in(fields) else {
+    let Some(front) = named_front_in(fields) else {
         return Ok(None);
     };
     let Some(spec) = spec_in(alloc, fields[7], &fields[8..])? else {

@@ -6,6 +6,7 @@ mod fault;
 mod fields;
 mod laws;
 mod lines;
+mod name;
 mod number;
 mod reading;
 mod reading_back;

@@ -1,7 +1,8 @@
 //! What a line says.
 
-ghost use Rattle.std.specs.Prelude.{◌≡◌, ◌==◌, ◌<◌, ◌^◌, ℕ, Some, IfOk, IfSome, option_map, [], map};
+ghost use Rattle.std.specs.Prelude.{◌≡◌, true, ◌==◌, ◌<◌, ◌^◌, ℕ, Some, IfOk, IfSome, option_map, [], map};
 ghost use Rattle.std.specs.List.{slice_split};
+ghost use Rattle.bucket_ranges.specs.Reading.{is_name};
 ghost use Rattle.reading_sums.specs.declared.key.KeySum as key_type;
 ghost use Rattle.reading_sums.specs.declared.notes.Notes as notes_type;
 ghost use Rattle.reading_sums.specs.Totals.{Part};
@@ -29,9 +30,11 @@ pub(crate) fn notes_at(alloc: Global, line: &[u8]) -> Result<Option<Notes>, Allo
     Ok(notes_in(&fields))
 }
 
-/// Returns the name with its spec on a line, if it is one of these. It has no keys yet.
+/// Returns the name with its spec on a line, if it is one of these, and a histogram can have the name. It has no keys
+/// yet.
 pub(crate) fn hist_at(alloc: Global, line: &[u8]) -> Result<Option<HistSum>, AllocError>
     ensures found { IfOk result (λ hist. IfSome hist (λ hist. line.now ≡ line_bytes (hist_fields (part_of hist)))) }
+    ensures lawful { IfOk result (λ hist. IfSome hist (λ hist. is_name hist.name.items ≡ true)) }
     ensures keys { IfOk result (λ hist. IfSome hist (λ hist. hist.keys.items ≡ [])) }
     ensures only { (part : Part) → FitsPart part → line.now ≡ line_bytes (hist_fields part) → IfOk result (λ hist. option_map part_of hist ≡ Some (without_keys part)) }
 {

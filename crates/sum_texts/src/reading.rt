@@ -1,10 +1,10 @@
 //! A totals from its lines.
 
 ghost use Rattle.std.specs.Prelude.{◌≡◌, ◌∷◌, ◌++◌, ◌<◌, ◌≤◌, ◌^◌, ℕ, List, [], Option, IfOk, OnOk, IfSome, length, map, drop, false, ⊤, ◌==◌};
-ghost use Rattle.std.specs.List.{slice_split};
+ghost use Rattle.std.specs.List.{slice_split, AllByRecursion};
 ghost use Rattle.reading_sums.specs.declared.notes.Notes as notes_type;
 ghost use Rattle.sum_texts.specs.Read.{read_view};
-ghost use Rattle.sum_texts.specs.Lines.{Whole, FitsWhole, lines_of, totals_text, line_bytes, head_fields, notes_fields, fold_lines, end_fields, FitNotes};
+ghost use Rattle.sum_texts.specs.Lines.{Whole, FitsWhole, IsNamed, lines_of, totals_text, line_bytes, head_fields, notes_fields, fold_lines, end_fields, FitNotes};
 ghost use Rattle.sum_texts.specs.Runs.{bytes_of, begins as begins_with, Gives};
 
 use crate::lines::{end_at, fold_at, notes_at};
@@ -78,6 +78,7 @@ pub(crate) fn check_end(alloc: Global, lines: &[&[u8]], at: usize, parts: u64) -
 
 /// Returns what the lines of a totals say, if an empty one comes after the last line feed.
 pub(crate) fn whole_in(alloc: Global, lines: &[&[u8]]) -> Result<TotalsRead, Wrong>
+    ensures lawful { IfOk result (λ read. AllByRecursion IsNamed (read_view read).parts) }
     ensures found { IfOk result (λ read. bytes_of lines.now ≡ map line_bytes (lines_of (read_view read)) ++ [] ∷ []) }
     ensures only { (whole : Whole) → FitsWhole whole → bytes_of lines.now ≡ map line_bytes (lines_of whole) ++ [] ∷ [] → Gives result (λ read. read_view read ≡ whole) }
 {
@@ -104,6 +105,7 @@ fn lines_in(alloc: Global, text: &[u8]) -> Result<Vec<&[u8]>, AllocError>
 /// Returns what the text of a totals says. A text says at most one thing, and whatever fits into lines is read back
 /// from its text.
 pub(crate) fn text_in(alloc: Global, text: &[u8]) -> Result<TotalsRead, Wrong>
+    ensures lawful { IfOk result (λ read. AllByRecursion IsNamed (read_view read).parts) }
     ensures found { IfOk result (λ read. text.now ≡ totals_text (read_view read)) }
     ensures only { (whole : Whole) → FitsWhole whole → text.now ≡ totals_text whole → Gives result (λ read. read_view read ≡ whole) }
 {

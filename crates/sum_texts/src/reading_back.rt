@@ -1,11 +1,12 @@
 //! A totals read back from its text.
 
 ghost use Rattle.std.specs.Prelude.{◌≡◌, ◌↔◌, ◌≤◌, ◌+◌, ℕ, Err, true, IfOk, IfErr, map, min, sum_by, take};
-ghost use Rattle.reading_sums.specs.Views.{part_of};
+ghost use Rattle.std.specs.List.{AllByRecursion};
+ghost use Rattle.reading_sums.specs.Views.{part_of, parts_of};
 ghost use Rattle.reading_sums.specs.Whole.{IsWellFormed};
 ghost use Rattle.sum_texts.specs.declared.fault.TotalsFault.TheVariants.{NoMemory, BadTotals};
 ghost use Rattle.sum_texts.specs.declared.totals.Totals as totals_type;
-ghost use Rattle.sum_texts.specs.Lines.{Whole, FitsWhole, totals_text};
+ghost use Rattle.sum_texts.specs.Lines.{Whole, FitsWhole, IsNamed, totals_text};
 ghost use Rattle.sum_texts.specs.Read.{read_view};
 ghost use Rattle.sum_texts.specs.Views.{whole_of};
 ghost use Rattle.sum_texts.specs.Writable.{AreFormed, IsFirstWrong, IsWritable, IsWrongLine, line_count};
@@ -19,6 +20,7 @@ use std::alloc::Global;
 
 // What the text of a totals says; if it says nothing, the number of a line.
 fn said_in(alloc: Global, text: &[u8]) -> Result<TotalsRead, TotalsFault>
+    ensures lawful { IfOk result (λ said. AllByRecursion IsNamed (read_view said).parts) }
     ensures found { IfOk result (λ said. text.now ≡ totals_text (read_view said)) }
     ensures back { (whole : Whole) → FitsWhole whole → text.now ≡ totals_text whole → IfOk result (λ said. read_view said ≡ whole) }
     ensures only { (whole : Whole) → FitsWhole whole → text.now ≡ totals_text whole → IfErr result (λ fault. fault ≡ NoMemory) }
@@ -84,8 +86,8 @@ fn wrong_line(alloc: Global, text: &[u8]) -> Result<u64, TotalsFault>
 }
 
 /// Returns the totals whose text this is: it has exactly this text [read], and its sum is well formed [well_formed].
-/// From the text of a totals of a well-formed sum, whose names have neither commas nor line feeds, it returns the same
-/// totals again [back].
+/// Each of its names is one that a histogram in a segment can have [names]. From the text of a totals of a well-formed
+/// sum with such names it returns the same totals again [back].
 ///
 /// `BadTotals` is returned only if the text is not that of such a totals [only]. Its number is that of a line, from 1,
 /// and is meant to be the first line that does not continue those before it. If every line does, it is that of the
@@ -93,6 +95,7 @@ fn wrong_line(alloc: Global, text: &[u8]) -> Result<u64, TotalsFault>
 /// the keys of its spec, or has units that pass 64 bits [line]. `NoMemory` is returned if memory runs out.
 pub fn totals_of(alloc: Global, text: &[u8]) -> Result<Totals, TotalsFault>
     ensures read { IfOk result (λ totals. text.now ≡ totals_text (whole_of totals)) }
+    ensures names { IfOk result (λ totals. AllByRecursion IsNamed (parts_of totals.sums)) }
     ensures well_formed { IfOk result (λ totals. IsWellFormed totals.sums) }
     ensures back { (totals : totals_type.Totals) → IsWritable totals → text.now ≡ totals_text (whole_of totals) → IfOk result (λ read. whole_of read ≡ whole_of totals) }
     ensures only { (totals : totals_type.Totals) → IsWritable totals → text.now ≡ totals_text (whole_of totals) → IfErr result (λ fault. fault ≡ NoMemory) }

@@ -5,7 +5,7 @@ ghost use Rattle.std.specs.List.{flat_map, AllByRecursion};
 ghost use Rattle.reading_sums.specs.declared.key.KeySum as key_type;
 ghost use Rattle.reading_sums.specs.Totals.{Part};
 ghost use Rattle.reading_sums.specs.Views.{part_of};
-ghost use Rattle.sum_texts.specs.Lines.{FitsKey, FitsPart, FitsSegment};
+ghost use Rattle.sum_texts.specs.Lines.{FitsKey, FitsPart, FitsSegment, IsNamed};
 ghost use Rattle.sum_texts.specs.Runs.{bytes_of, begins as begins_with, key_block, part_block, segment_block, Gives};
 
 use crate::lines::{hist_at, key_at, segment_at};
@@ -73,6 +73,7 @@ pub(crate) fn segments_in(
 // The name with its spec and its keys whose lines begin at `start`, and the index of the line after them.
 fn hist_from(alloc: Global, lines: &[&[u8]], start: usize) -> Result<(HistSum, usize), Wrong>
     requires { start < length lines.now }
+    ensures lawful { IfOk result (λ read. IsNamed (part_of read.0)) }
     ensures found { IfOk result (λ read. bytes_of (drop start lines.now) ≡ part_block (part_of read.0) ++ bytes_of (drop read.1 lines.now)) }
     ensures within { IfOk result (λ read. read.1 ≤ length lines.now) }
     ensures further { IfOk result (λ read. start < read.1) }
@@ -102,6 +103,7 @@ pub(crate) fn hists_in(
     start: usize,
 ) -> Result<(Vec<HistSum>, usize), Wrong>
     requires { start ≤ length lines.now }
+    ensures lawful { IfOk result (λ read. AllByRecursion IsNamed (map part_of read.0.items)) }
     ensures found { IfOk result (λ read. bytes_of (drop start lines.now) ≡ flat_map part_block (map part_of read.0.items) ++ bytes_of (drop read.1 lines.now)) }
     ensures within { IfOk result (λ read. read.1 ≤ length lines.now) }
     ensures only { (parts : List Part) (behind : List (List ℕ)) → AllByRecursion FitsPart parts → (begins_with 104 behind ≡ false) × (begins_with 107 behind ≡ false) → bytes_of (drop start lines.now) ≡ flat_map part_block parts ++ behind → Gives result (λ read. (map part_of read.0.items ≡ parts) × (bytes_of (drop read.1 lines.now) ≡ behind)) }

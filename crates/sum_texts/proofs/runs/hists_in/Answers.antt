@@ -1,12 +1,12 @@
 use Rattle.std.proofs.lemmas.Result.{err_from_is_err_and}
 use Rattle.std.proofs.Common.{Err, ◌≡◌, ◌∙◌, ◌++◌, ◌∷◌, [], false, drop, map, refl, ap, sym, subst}
-use Rattle.std.specs.List.{flat_map}
+use Rattle.std.specs.List.{flat_map, AllByRecursion}
 use Rattle.std.proofs.lemmas.List.{map-append}
 use Rattle.reading_sums.specs.Totals.{Part}
 use Rattle.reading_sums.specs.Views.{part_of}
-use Rattle.sum_texts.specs.Lines.{FitsPart}
+use Rattle.sum_texts.specs.Lines.{FitsPart, IsNamed}
 use Rattle.sum_texts.specs.Runs.{bytes_of, begins, part_block}
-use Rattle.sum_texts.proofs.Fronts.{Left, left_more, left_done, left_wrong, found_more, no_key_behind, of_memory, gives_memory, no_line, IsMemory}
+use Rattle.sum_texts.proofs.Fronts.{Left, left_more, left_done, left_wrong, found_more, no_key_behind, of_memory, gives_memory, no_line, all_more, IsMemory}
 use Rattle.sum_texts.proofs.runs.hists_in.Goals as goal
 
 pub returns-in_err-hist-clause-only : goal.returns-in_err-hist-clause-only
@@ -29,6 +29,7 @@ run-preserved c =
     let done = map part_of c.run.hists.items in
     let pushed : map part_of c.push.new.self.items ≡ done ++ part ∷ [] = ap (map part_of) c.in_ok-push.ensures.items ∙ map-append part_of c.run.hists.items (c.in_ok-hist.hist ∷ []) in record {
       within = c.in_ok-hist.ensures.within;
+      lawful = subst (AllByRecursion IsNamed) (sym pushed) (all_more IsNamed done part c.run.invariant.lawful c.in_ok-hist.ensures.lawful);
       found =
           subst (λ all. start ≡ flat_map part_block all ++ next) (sym pushed)
           (found_more Part part_block start done (bytes_of (drop c.run.at lines)) part next c.run.invariant.found c.in_ok-hist.ensures.found);

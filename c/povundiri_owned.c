@@ -295,6 +295,7 @@ int povundiri_folder_commit(struct povundiri_place *place, struct povundiri_owne
         fault = link_to(place, spare, name);
         if (fault == EEXIST) number += 1;
     } while (fault == EEXIST && number < NUMBERS_END);
+    if (fault == EEXIST) fault = EOVERFLOW;
     if (fault != 0) return fault;
     if (spare->name[0] != 0) unlinkat(folder_of(place), spare->name, 0);
     spare->number = number;

@@ -97,7 +97,7 @@ WRONG = [
     ("images are numbered from 0 again", "_sums.py", "number: number + self.whole.images", "number: number"),
     ("sums of 128 bits", "_sums.py", "-(2**127) <= number < 2**127", "-(2**127) < number < 2**127"),
     ("a key of one sparse histogram is lost", "_sums.py", "sorted({*keys, *other.layout[0]})", "sorted({*keys})"),
-    ("the order of names is that of letters", "_sums.py", 'one.name.encode("utf-8", "surrogateescape")', "one.name"),
+    ("totals have any names", "_totals.py", 'NAME = rb"((?!!)[!#-+\\--~]{1,128})"', 'NAME = rb"([^,]*)"'),
     ("totals end anywhere", "_totals.py", "if lines.lines[lines.number :] != [b\"\"]:", "if False:"),
     ("totals have any keys", "_totals.py", "return spec.is_valid and tuple(keys) == spec.ranges[:-1]", "return True"),
 ]
@@ -269,7 +269,8 @@ def recording_folders(package: Package, top: pathlib.Path, seed: int | str) -> I
 
 
 def refused_folders(package: Package, top: pathlib.Path) -> Iterator[Case]:
-    """Folders that cannot be read: damaged totals, no recording's, none at all; and one with nothing in it."""
+    """Folders that cannot be read: damaged totals, no recording's, none at all; one with nothing in it; and the greatest number of a
+    segment, and one of a digit more."""
     path = folders.made(top / "a folder")
     yield "nothing in it", wrong_folder(package, path)
     folders.put(path, 1, mapped(CRASH.read_bytes()))
@@ -283,9 +284,9 @@ def refused_folders(package: Package, top: pathlib.Path) -> Iterator[Case]:
         yield f"a folder that raises {wanted.__name__}", None if is_right else repr(came)
     (path / TOTALS).unlink()
     (path / name_of(1)).unlink()
-    folders.put(path, 2**62, mapped(CRASH.read_bytes()))
-    came = faulted(lambda: package.read(path), package)
-    yield "a number of 2^62", None if came == "TooMany" else str(came)
+    for number in (10**18 - 1, 10**18):
+        folders.put(path, number, mapped(with_id(CRASH.read_bytes(), number)))
+        yield f"the number {number}", wrong_folder(package, path)
 
 
 @contextlib.contextmanager

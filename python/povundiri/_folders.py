@@ -8,6 +8,7 @@ import os
 import re
 import stat
 from array import array
+from collections.abc import Collection
 from typing import NamedTuple, Optional
 
 from ._faults import Busy, Fault, NoRecording, TooMany, fault_at
@@ -21,7 +22,13 @@ from ._totals import Totals, totals_of
 MARK, TOTALS = "recording", "totals"
 # The files of a folder that have no counts beside those of its segments and its totals.
 OWN = frozenset([MARK, TOTALS, "totals.new", "fold.lock"])
-SEGMENT_NAME = re.compile(r"([0-9]{10,18})\.seg")
+# Names for later, of which nothing is read.
+HISTORY = frozenset(["history", "history.new", "history.lock", "history.damaged"])
+SEGMENT_NAME = re.compile(r"([0-9]{10,18})\.(seg|damaged)")
+# A segment and a mark that have not got their names.
+UNNAMED = re.compile(r"spare-[1-9][0-9]{0,17}-[0-9a-f]{16}|recording-[0-9a-f]{16}")
+# A mark: how many bytes it has, and its first two words. The third is the folder's id.
+MARK_BYTES, MARK_COOKIE, MARK_FORM = 4096, 0x6B72614D, 1
 # The bytes from which an id is read: a word of zeros, and the words of a header up to it.
 FRONT = 8 * (1 + ID + 1)
 # How often a reading begins.
@@ -38,11 +45,43 @@ class Listed(NamedTuple):
     length: int
 
 
-def number_in(name: str) -> Optional[int]:
-    """The number of the segment whose file has this name, or None."""
+def number_in(name: str, ending: str = "seg") -> Optional[int]:
+    """The number of the segment whose file has this name, or of a file with another ending; None if it has none."""
     found = SEGMENT_NAME.fullmatch(name)
     number = int(found[1]) if found else 0
-    return number if number > 0 and name == f"{number:010}.seg" else None
+    return number if number > 0 and name == f"{number:010}.{ending}" else None
+
+
+def was_recorded(names: Collection[str]) -> bool:
+    """Whether a folder without a mark is a recording's, by the names of all that is in it: some file has what was
+    recorded, and each has a name that a recording's folder has."""
+    recorded = {name for name in names if name == TOTALS or number_in(name) or number_in(name, "damaged")}
+    others = {name for name in names if name not in OWN | HISTORY and not UNNAMED.fullmatch(name)}
+    return bool(recorded) and others <= recorded
+
+
+def is_mark(path: str) -> bool:
+    """Whether the file `recording` at a path marks a recording's folder; if it may not be read, by its length."""
+    status = os.lstat(path)
+    if not stat.S_ISREG(status.st_mode) or status.st_size not in (0, MARK_BYTES):
+        return False
+    try:
+        with open(path, "rb") as file:
+            data = file.read(MARK_BYTES)
+    except PermissionError:
+        return True
+    if len(data) != status.st_size or not any(data):
+        return len(data) == status.st_size
+    words = in_file_order(array("Q", data))
+    return words[0] == MARK_COOKIE and words[1] == MARK_FORM and words[2] != 0
+
+
+def is_recording(folder: str) -> bool:
+    """Whether a folder is a recording's: by its mark, or, if that is missing, by the names of all that is in it."""
+    try:
+        return is_mark(os.path.join(folder, MARK))
+    except FileNotFoundError:
+        return was_recorded(os.listdir(folder))
 
 
 def listed_in(folder: str) -> tuple[list[Listed], tuple[str, ...]]:
@@ -201,8 +240,7 @@ def read_recording(path: Path) -> Reading:
     """
     folder = os.fspath(path)
     with fault_at(folder):
-        if status_of(os.path.join(folder, MARK)) is None:
-            os.listdir(folder)
+        if not is_recording(folder):
             raise NoRecording
         looks = Looks()
         for _ in range(MOST_TIMES):

@@ -321,11 +321,114 @@ def among_others(program: pathlib.Path, top: pathlib.Path) -> Iterator[Case]:
     whole, left = Folder.at(first).reading()
     came = answer(program, ["show", first, "--html"])
     yield "a page", summed_pages.beside(came, first, whole, left)
-    (first / MARK).unlink()
-    files = ((file, file.read_bytes()) for file in sorted(first.iterdir()))
-    whole, left = plain_sums.sum_of((file, data) for file, data in files if plain_sums.is_taken(data))
     came = answer(program, ["report", first])
-    yield "without its mark", difference(Answer(plain_sums.report_of(whole, len(left))), came)
+    (first / MARK).unlink()
+    yield "without its mark", difference(came, answer(program, ["report", first]))
+
+
+# What a file `recording` may be, and whether it is a mark: bytes; where a link leads to; or nothing, for a folder.
+MARKS: dict[str, tuple[bytes | str | None, bool]] = {
+    "no bytes": (b"", True),
+    "zeros": (bytes(4096), True),
+    "a mark": (plain_folders.mark(7), True),
+    "the greatest id": (plain_folders.mark(2**64 - 1), True),
+    "an id of 0": (plain_folders.mark(0), False),
+    "another cookie": (plain_folders.mark(7, cookie=0x6B72614C), False),
+    "form 2": (plain_folders.mark(7, form=2), False),
+    "a byte too few": (plain_folders.mark(7)[:-1], False),
+    "a byte too many": (plain_folders.mark(7) + b"\0", False),
+    "zeros, one too few": (bytes(4095), False),
+    "zeros, one too many": (bytes(4097), False),
+    "a word": (bytes(8), False),
+    "the last bit of 4,096": (bytes(4095) + b"\x80", False),
+    "a text": (b"we keep the images of all hosts here\n", False),
+    "an image": (CRASH.read_bytes(), False),
+    "a link that leads nowhere": ("nowhere", False),
+    "a link to a mark": ("../whole", False),
+    "a folder": (None, False),
+}
+# Names of further files in a folder of segments and totals without a mark, and whether all may be there.
+BESIDE: dict[tuple[str, ...], bool] = {
+    (): True,
+    ("totals.new", "fold.lock", "0000000009.damaged", "history", "history.new"): True,
+    ("history.lock", "history.damaged"): True,
+    ("spare-1-0123456789abcdef", "spare-999999999999999999-ffffffffffffffff", "recording-0000000000000000"): True,
+    ("notes.txt",): False,
+    (".hidden",): False,
+    ("spare-0-0123456789abcdef",): False,
+    ("spare-01-0123456789abcdef",): False,
+    ("spare--0123456789abcdef",): False,
+    ("spare-1-0123456789abcdeF",): False,
+    ("spare-1-0123456789abcde",): False,
+    ("spare-1-0123456789abcdef0",): False,
+    ("spare-1x0123456789abcdef",): False,
+    ("spare-1234567890123456789-0123456789abcdef",): False,
+    ("spare-",): False,
+    ("recording-",): False,
+    ("recording-0123456789abcdeg",): False,
+    ("recording-0123456789abcdef~",): False,
+    ("recording_0123456789abcdef",): False,
+    ("history.old",): False,
+    ("totals.old",): False,
+    ("0000000000.seg",): False,
+    ("5.seg",): False,
+    ("0000000005.SEG",): False,
+    ("0000000000.damaged",): False,
+    ("1000000000000000000.seg",): False,
+    ("fold.lock", "history", "a.img"): False,
+}
+
+
+def twice_there(path: pathlib.Path) -> None:
+    """A folder in which two segments are also in the totals: they count once in a recording's folder, and twice among
+    the images of another."""
+    path.mkdir()
+    for number in (3, 5):
+        put(path, number, mapped(with_id(CRASH.read_bytes(), number)))
+    folded, _ = Folder.at(path).folded()
+    assert folded.totals is not None
+    (path / TOTALS).write_bytes(folded.totals)
+
+
+def report_wanted(path: pathlib.Path, is_recording: bool) -> Answer:
+    """The report of what was recorded in a folder, or of the images and totals in it."""
+    if is_recording:
+        whole, left = Folder.at(path).reading()
+        return sums.wanted_of(plain_sums.report_of(whole, len(left)), left)
+    files = ((file, file.read_bytes()) for file in sorted(path.iterdir()) if file.is_file() and not file.is_symlink())
+    whole, refused = plain_sums.sum_of((file, data) for file, data in files if plain_sums.is_taken(data))
+    return sums.wanted_of(plain_sums.report_of(whole, len(refused)), refused)
+
+
+def marks(program: pathlib.Path, top: pathlib.Path) -> Iterator[Case]:
+    """Which folders are a recording's: by what `recording` is, and, where that is missing, by the names in it."""
+    (top / "whole").write_bytes(plain_folders.mark(7))
+    for number, (name, (content_of, is_mark)) in enumerate(MARKS.items()):
+        path = top / f"mark {number}"
+        twice_there(path)
+        if content_of is None:
+            (path / MARK).mkdir()
+        elif isinstance(content_of, str):
+            (path / MARK).symlink_to(content_of)
+        else:
+            (path / MARK).write_bytes(content_of)
+        yield f"recording is {name}", difference(report_wanted(path, is_mark), answer(program, ["report", path]))
+        before, came = Folder.at(path), answer(program, ["fold", path])
+        is_told = (came.status, came.error.startswith(f'persist_report: Read: "{path / MARK}": '.encode())) == (4, True)
+        yield f"recording is {name}, a fold", None if is_told != is_mark else str(came)
+        if not is_mark:
+            yield f"recording is {name}, what is there then", wrong_files(path, before)
+    for number, (names, is_recording) in enumerate(BESIDE.items()):
+        path = top / f"beside {number}"
+        twice_there(path)
+        for name in names:
+            (path / name).write_bytes(b"")
+        wanted = report_wanted(path, is_recording)
+        yield f"without a mark, {', '.join(names)}", difference(wanted, answer(program, ["report", path]))
+    path = top / "spare alone"
+    path.mkdir()
+    (path / "spare-1-0123456789abcdef").write_bytes(mapped(CRASH.read_bytes()))
+    yield "without a mark, a spare", difference(report_wanted(path, False), answer(program, ["report", path]))
 
 
 def refusals(program: pathlib.Path, top: pathlib.Path) -> Iterator[Case]:
@@ -695,7 +798,8 @@ def wrong_beside(runs: recordings.Folder) -> str | None:
 
 def cases(program: pathlib.Path, options: argparse.Namespace) -> Iterator[Case]:
     Part = Callable[[pathlib.Path, pathlib.Path], Iterator[Case]]
-    parts: Sequence[Part] = (many, great_numbers, example, among_others, refusals, damaged_totals, nothing, beside)
+    plain = (many, great_numbers, example, among_others, marks, refusals, damaged_totals, nothing, beside)
+    parts: Sequence[Part] = plain
     traced: Sequence[Part] = (amid_readings, kills, failures)
     if not tracer.can_trace():
         yield untried(tracer.NOT_ALLOWED, options)

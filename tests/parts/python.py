@@ -289,6 +289,35 @@ def refused_folders(package: Package, top: pathlib.Path) -> Iterator[Case]:
         yield f"the number {number}", wrong_folder(package, path)
 
 
+def wrong_kind(package: Package, path: pathlib.Path, is_recording: bool) -> str | None:
+    """What is wrong with the reading of a folder that is a recording's, or is refused since it is none; or None."""
+    if is_recording:
+        return wrong_folder(package, path)
+    came = faulted(lambda: package.read(path), package)
+    return None if came == "NoRecording" else str(came)
+
+
+def marked_folders(package: Package, top: pathlib.Path) -> Iterator[Case]:
+    """Which folders are a recording's: by what `recording` is, and, where that is missing, by the names in it."""
+    (top / "whole").write_bytes(plain_folders.mark(7))
+    for number, (name, (content, is_mark)) in enumerate(folders.MARKS.items()):
+        path = top / f"mark {number}"
+        folders.twice_there(path)
+        if content is None:
+            (path / MARK).mkdir()
+        elif isinstance(content, str):
+            (path / MARK).symlink_to(content)
+        else:
+            (path / MARK).write_bytes(content)
+        yield f"recording is {name}", wrong_kind(package, path, is_mark)
+    for number, (names, is_recording) in enumerate(folders.BESIDE.items()):
+        path = top / f"beside {number}"
+        folders.twice_there(path)
+        for name in names:
+            (path / name).write_bytes(b"")
+        yield f"without a mark, {', '.join(names)}", wrong_kind(package, path, is_recording)
+
+
 @contextlib.contextmanager
 def before_each_look(package: Package, work: Callable[[], None]) -> Iterator[None]:
     """While something is done before each listing of a folder."""
@@ -484,6 +513,7 @@ def without_program(package: Package, top: pathlib.Path, seed: int | str, images
     yield from ends_of_sums(package)
     yield from worked_looks(package, top)
     yield from refused_folders(package, top)
+    yield from marked_folders(package, top)
     yield from amid_readings(package, top)
     yield from known_images(package)
     yield from recording_folders(package, top, seed)

@@ -39,6 +39,11 @@ def number_of(name: str) -> int | None:
     return int(digits) if name_of(int(digits)) == name else None
 
 
+def mark(identity: int, cookie: int = 0x6B72614D, form: int = 1) -> bytes:
+    """The bytes of a mark with words, or of one that differs from it."""
+    return struct.pack("<3Q", cookie, form, identity).ljust(4096, b"\0")
+
+
 def with_id(data: bytes, number: int) -> bytes:
     """An image with this id."""
     return data[: 8 * ID] + struct.pack("<Q", number) + data[8 * ID + 8 :]

@@ -8,10 +8,10 @@
 
 use image_reader::Reading;
 use persist_report_core::{CliFault, read_image, read_input};
-use recording_folders::{fold_of, folded_totals, is_named, serial_of};
+use recording_folders::{Mark, fold_of, folded_totals, is_named, serial_of};
 use report_sources::{
     FOLD_LOCK, MARK, NEW_TOTALS, Named, Segment, TOTALS, What, cause_of_read, id_in, input_failure,
-    path_in, segments_in, tell_left, totals_from, totals_text_in,
+    mark_in, path_in, segments_in, tell_left, totals_from, totals_text_in,
 };
 use report_streams::{
     Cause, Context, Failure, System, is_at, remedies_of, take_lock, unopened, unopened_out,
@@ -347,16 +347,26 @@ fn fold_locked<R: Files<File = File> + AllocGlobal>(
     Ok(work)
 }
 
-// Checks that a folder is a recording's.
+// Why a folder is not marked as a recording's, if it is not.
+fn unmarked<R: Files + AllocGlobal>(rt: &R, folder: &str) -> Option<io::Error> {
+    match mark_in(rt, folder) {
+        Ok(Some(Mark::Empty | Mark::Whole { .. })) => None,
+        Ok(Some(Mark::Foreign)) => Some(io::Error::from(ErrorKind::InvalidData)),
+        Ok(None) => Some(io::Error::from(ErrorKind::NotFound)),
+        Err(error) => Some(error),
+    }
+}
+
+// Checks that a folder is marked as a recording's.
 fn check_mark<R: Files + AllocGlobal>(
     context: &Context<'_, R>,
     folder: &str,
 ) -> Result<(), Failure> {
+    let Some(error) = unmarked(context.rt, folder) else {
+        return Ok(());
+    };
     let mark = path_in(context.alloc(), folder, MARK)?;
-    match fs::symlink_metadata(context.rt, mark.as_str()) {
-        Ok(_) => Ok(()),
-        Err(error) => Err(unopened(context, cause_of_read(error), mark.as_str())),
-    }
+    Err(unopened(context, cause_of_read(error), mark.as_str()))
 }
 
 // Takes the lock of folds, which the file has until it is closed.

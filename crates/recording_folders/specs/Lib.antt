@@ -1,4 +1,6 @@
 pub mod Names
+pub mod Mark
+pub mod Belonging
 pub mod Segments
 pub mod Folder
 pub mod Folding

@@ -3,9 +3,11 @@
 ghost use Rattle.std.specs.Prelude.{◌≡◌, ◌⊎◌, IfOk};
 ghost use Rattle.recording_folders.specs.declared.kind.FileKind as file_kind;
 ghost use Rattle.recording_folders.specs.declared.kind.FileKind.TheVariants.{Other};
-ghost use Rattle.recording_folders.specs.Names.{IsNameOf, HasNoNumber};
+ghost use Rattle.std.specs.Bool.{Decides};
+ghost use Rattle.recording_folders.specs.Names.{IsNameOf, HasNoNumber, IsHistoryName};
 
 use crate::name::{DAMAGED, SEGMENT, number_in};
+use crate::random::{is_new_mark, is_spare};
 use std::alloc::{AllocError, Global};
 
 /// Which file of a recording's folder a name is for.
@@ -25,11 +27,15 @@ pub enum FileKind {
     FoldLock,
     /// The file that says what the folder is.
     Mark,
+    /// Such a file before it has its name.
+    NewMark,
+    /// One of the names that are kept for later.
+    History,
     /// Any other.
     Other,
 }
 
-// The names that have no number, and what the others begin with.
+// The names that have no number.
 const TOTALS: &[u8] = b"totals";
 
 const NEW_TOTALS: &[u8] = b"totals.new";
@@ -38,7 +44,20 @@ const FOLD_LOCK: &[u8] = b"fold.lock";
 
 const MARK: &[u8] = b"recording";
 
-const SPARE: &[u8] = b"spare-";
+const HISTORY: &[u8] = b"history";
+
+const NEW_HISTORY: &[u8] = b"history.new";
+
+const HISTORY_LOCK: &[u8] = b"history.lock";
+
+const DAMAGED_HISTORY: &[u8] = b"history.damaged";
+
+// Whether a name is kept for later.
+fn is_history(name: &[u8]) -> bool
+    ensures { Decides result (IsHistoryName name.now) }
+{
+    name == HISTORY || name == NEW_HISTORY || name == HISTORY_LOCK || name == DAMAGED_HISTORY
+}
 
 // The kind of a name without a number.
 fn kind_without_number(name: &[u8]) -> FileKind
@@ -53,7 +72,11 @@ fn kind_without_number(name: &[u8]) -> FileKind
         FileKind::FoldLock
     } else if name == MARK {
         FileKind::Mark
-    } else if name.starts_with(SPARE) {
+    } else if is_history(name) {
+        FileKind::History
+    } else if is_new_mark(name) {
+        FileKind::NewMark
+    } else if is_spare(name) {
         FileKind::Spare
     } else {
         FileKind::Other

@@ -90,6 +90,19 @@ fn put_folder<R: Files + AllocGlobal>(
     Ok(())
 }
 
+// Appends the regular files in a folder, unless it is a recording's. Returns whether it is.
+fn put_folder_unless_recording<R: Files + AllocGlobal>(
+    rt: &R,
+    names: &mut Vec<Named>,
+    folder: &str,
+) -> io::Result<bool> {
+    let is_recorded = is_recording(rt, folder)?;
+    if !is_recorded {
+        put_folder(rt, names, folder)?;
+    }
+    Ok(is_recorded)
+}
+
 // Appends what a recording's folder has, and then its segments that could not be looked at: these are read as any other
 // input is, or reported.
 fn put_recorded<R: Files<File = File> + AllocGlobal>(
@@ -113,17 +126,15 @@ pub fn put_input<R: Files<File = File> + AllocGlobal>(
     names: &mut Vec<Named>,
     path: &str,
 ) -> Result<(), Failure> {
-    if is_folder(context.rt, path) {
-        if is_recording(context.rt, path)? {
-            return put_recorded(context, names, path);
-        }
-        return match put_folder(context.rt, names, path) {
-            Ok(()) => Ok(()),
-            Err(error) => Err(unopened(context, Cause::of(CliFault::Read, error), path)),
-        };
+    if !is_folder(context.rt, path) {
+        put_named(names, String::from_str(context.alloc(), path)?, What::Named)?;
+        return Ok(());
     }
-    put_named(names, String::from_str(context.alloc(), path)?, What::Named)?;
-    Ok(())
+    match put_folder_unless_recording(context.rt, names, path) {
+        Ok(true) => put_recorded(context, names, path),
+        Ok(false) => Ok(()),
+        Err(error) => Err(unopened(context, Cause::of(CliFault::Read, error), path)),
+    }
 }
 
 // The bytes of a list of files.

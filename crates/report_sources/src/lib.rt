@@ -31,6 +31,6 @@ pub use left_out::{input_failure, tell_left};
 pub use looks::{Looks, last_used, open_looks};
 pub use opened::{OneFile, Opened, open_source};
 pub use standing::{
-    FOLD_LOCK, MARK, NEW_TOTALS, Segment, TOTALS, cause_of_read, id_in, path_in, segments_in,
-    totals_from, totals_text_in,
+    FOLD_LOCK, MARK, NEW_TOTALS, Segment, TOTALS, cause_of_read, id_in, mark_in, path_in,
+    segments_in, totals_from, totals_text_in,
 };

@@ -3,7 +3,7 @@
 use crate::left_out::input_failure;
 use persist_report_core::{CliFault, image_in};
 use reading_sums::Sums;
-use recording_folders::{FileKind, kind_of};
+use recording_folders::{FileKind, Mark, kind_of, mark_of, was_recorded};
 use report_streams::{Cause, Context, Failure, unopened};
 use segment_image::layout::ID_WORD;
 use segment_image::push_words;
@@ -18,6 +18,9 @@ use sum_texts::{Totals, totals_of};
 
 /// The file that says what the folder is.
 pub const MARK: &str = "recording";
+
+// The most bytes of a mark.
+const MARK_BYTES: u64 = 4096;
 
 /// The totals.
 pub const TOTALS: &str = "totals";
@@ -49,10 +52,33 @@ pub fn path_in(alloc: Global, folder: &str, name: &str) -> Result<String, AllocE
     Ok(path)
 }
 
-/// Returns whether the folder at a path is a recording's.
-pub fn is_recording<R: Files + AllocGlobal>(rt: &R, folder: &str) -> Result<bool, AllocError> {
-    let mark = path_in(rt.alloc(), folder, MARK)?;
-    Ok(fs::symlink_metadata(rt, mark.as_str()).is_ok())
+// What the bytes of a file `recording` are. One that may not be read is taken by its length.
+fn mark_at<R: Files + AllocGlobal>(rt: &R, path: &str) -> io::Result<Mark> {
+    match fs::read(rt, path) {
+        Ok(bytes) => Ok(mark_of(rt.alloc(), &bytes)?),
+        Err(error) if error.kind() == ErrorKind::PermissionDenied => Ok(Mark::Empty),
+        Err(error) => Err(error),
+    }
+}
+
+/// Returns what the file `recording` in a folder is; none if there is no such file.
+pub fn mark_in<R: Files + AllocGlobal>(rt: &R, folder: &str) -> io::Result<Option<Mark>> {
+    let path = path_in(rt.alloc(), folder, MARK)?;
+    match fs::symlink_metadata(rt, path.as_str()) {
+        Ok(found) if !found.is_file() || found.len() > MARK_BYTES => Ok(Some(Mark::Foreign)),
+        Ok(_) => Ok(Some(mark_at(rt, path.as_str())?)),
+        Err(error) if error.kind() == ErrorKind::NotFound => Ok(None),
+        Err(error) => Err(error),
+    }
+}
+
+/// Returns whether the folder at a path is a recording's: by its mark, or, if that is missing, by the names of all that
+/// is in it.
+pub fn is_recording<R: Files + AllocGlobal>(rt: &R, folder: &str) -> io::Result<bool> {
+    match mark_in(rt, folder)? {
+        Some(mark) => Ok(mark != Mark::Foreign),
+        None => Ok(was_recorded(rt.alloc(), &names_in(rt, folder)?)?),
+    }
 }
 
 /// Returns the cause of a read that failed for this reason.

@@ -229,7 +229,7 @@ bool povundiri_parts_is_spare(const char *name) {
     if (strncmp(name, "spare-", 6) != 0) return false;
     errno = 0;
     process = strtol(name + 6, &end, 10);
-    if (errno != 0 || process <= 0 || *end != '-') return false;
+    if (errno != 0 || process <= 0 || (uint64_t)process >= NUMBERS_END || *end != '-') return false;
     random = strtoull(end + 1, NULL, 16);
     povundiri_parts_name_spare(spelled, process, random);
     return errno == 0 && strcmp(spelled, name) == 0;

@@ -152,6 +152,7 @@ void spares() {
                                              "spare-1-0123456789abcde",
                                              "spare-1-0123456789abcdef0",
                                              "spare-1-0123456789ABCDEF",
+                                             "spare-1234567890123456789-0123456789abcdef",
                                              "spare-1-0123456789abcdeg",
                                              "spare-01-0123456789abcdef",
                                              "spare-0-0123456789abcdef",

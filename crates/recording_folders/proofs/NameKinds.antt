@@ -1,9 +1,9 @@
 -- The name of a number is of no other kind.
-use Rattle.std.proofs.Common.{◌≡◌, ℕ, ◌<◌, List, ◌++◌, ap, sym, ◌∙◌, codes, get_or, arith}
+use Rattle.std.proofs.Common.{◌≡◌, ℕ, ◌<◌, List, ◌++◌, ap, sym, ◌∙◌, codes, get_or, arith, inl, inr}
 use Rattle.std.specs.Int.{IsInRange}
 use Rattle.std.proofs.lemmas.List.{append_cancel_right}
 use Rattle.recording_folders.specs.declared.kind.FileKind.{FileKind}
-use Rattle.recording_folders.specs.declared.kind.FileKind.TheVariants.{Segment, Damaged, Spare, Totals, NewTotals, FoldLock, Mark, Other}
+use Rattle.recording_folders.specs.declared.kind.FileKind.TheVariants.{Segment, Damaged, Spare, Totals, NewTotals, FoldLock, Mark, NewMark, History, Other}
 use Rattle.recording_folders.specs.Names.{IsNumber, IsNameOf, HasNoNumber, padded, numbered, segment_name, damaged_name}
 use Rattle.recording_folders.proofs.Padded.{has_64_bits, padded_injective, ends_differ, begins_with_digit}
 
@@ -21,6 +21,16 @@ has_number name ending n number is FoldLock none h =
     begins_with_digit n 102 ending (has_64_bits n number) (λ range. omega arith) (ap (λ s. get_or s 0 0) (sym is ∙ h))
 has_number name ending n number is Mark none h =
     begins_with_digit n 114 ending (has_64_bits n number) (λ range. omega arith) (ap (λ s. get_or s 0 0) (sym is ∙ h))
+has_number name ending n number is NewMark none h =
+    begins_with_digit n 114 ending (has_64_bits n number) (λ range. omega arith) (ap (λ s. get_or s 0 0) (sym is ∙ h.is))
+has_number name ending n number is History none (inl h) =
+    begins_with_digit n 104 ending (has_64_bits n number) (λ range. omega arith) (ap (λ s. get_or s 0 0) (sym is ∙ h))
+has_number name ending n number is History none (inr (inl h)) =
+    begins_with_digit n 104 ending (has_64_bits n number) (λ range. omega arith) (ap (λ s. get_or s 0 0) (sym is ∙ h))
+has_number name ending n number is History none (inr (inr (inl h))) =
+    begins_with_digit n 104 ending (has_64_bits n number) (λ range. omega arith) (ap (λ s. get_or s 0 0) (sym is ∙ h))
+has_number name ending n number is History none (inr (inr (inr h))) =
+    begins_with_digit n 104 ending (has_64_bits n number) (λ range. omega arith) (ap (λ s. get_or s 0 0) (sym is ∙ h))
 has_number name ending n number is Other none h = h
 
 -- the name of a segment is that of its number alone
@@ -33,6 +43,8 @@ segment_only name n number is Totals h = absurd (has_number name (codes ".seg") 
 segment_only name n number is NewTotals h = absurd (has_number name (codes ".seg") n number is NewTotals tt h)
 segment_only name n number is FoldLock h = absurd (has_number name (codes ".seg") n number is FoldLock tt h)
 segment_only name n number is Mark h = absurd (has_number name (codes ".seg") n number is Mark tt h)
+segment_only name n number is NewMark h = absurd (has_number name (codes ".seg") n number is NewMark tt h)
+segment_only name n number is History h = absurd (has_number name (codes ".seg") n number is History tt h)
 segment_only name n number is Other h = absurd h
 
 -- and that of a damaged one
@@ -45,6 +57,8 @@ damaged_only name n number is Totals h = absurd (has_number name (codes ".damage
 damaged_only name n number is NewTotals h = absurd (has_number name (codes ".damaged") n number is NewTotals tt h)
 damaged_only name n number is FoldLock h = absurd (has_number name (codes ".damaged") n number is FoldLock tt h)
 damaged_only name n number is Mark h = absurd (has_number name (codes ".damaged") n number is Mark tt h)
+damaged_only name n number is NewMark h = absurd (has_number name (codes ".damaged") n number is NewMark tt h)
+damaged_only name n number is History h = absurd (has_number name (codes ".damaged") n number is History tt h)
 damaged_only name n number is Other h = absurd h
 
 -- a name that is that of no number is recognized by what it is without one
@@ -57,4 +71,6 @@ without_number name segment damaged found only Totals h = only Totals tt h
 without_number name segment damaged found only NewTotals h = only NewTotals tt h
 without_number name segment damaged found only FoldLock h = only FoldLock tt h
 without_number name segment damaged found only Mark h = only Mark tt h
+without_number name segment damaged found only NewMark h = only NewMark tt h
+without_number name segment damaged found only History h = only History tt h
 without_number name segment damaged found only Other h = absurd h

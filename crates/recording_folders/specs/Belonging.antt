@@ -1,6 +1,5 @@
 -- Which folders are a recording's though they have no mark.
-use Rattle.std.specs.Prelude.{ℕ, List, ⊤}
-use Rattle.std.specs.List.{All, Contains}
+use Rattle.std.specs.Prelude.{◌⊎◌, ℕ, List, [], ◌∷◌, ⊤}
 use Rattle.recording_folders.specs.declared.kind.FileKind.{FileKind}
 use Rattle.recording_folders.specs.declared.kind.FileKind.TheVariants.{Segment, Damaged, Spare, Totals, NewTotals, FoldLock, Mark, NewMark, History, Other}
 use Rattle.recording_folders.specs.Names.{IsNameOf}
@@ -28,9 +27,16 @@ pub record IsRecorded (name : List ℕ) : Type 0 where
   pub is : IsNameOf name kind
   pub units : HasUnits kind
 
+-- some file has what was recorded
+abbrev pub HasRecorded : List (List ℕ) → Type 0
+HasRecorded [] = ⊥
+HasRecorded (name ∷ more) = IsRecorded name ⊎ HasRecorded more
+
+-- each file may be in a recording's folder
+abbrev pub AreInTable : List (List ℕ) → Type 0
+AreInTable [] = ⊤
+AreInTable (name ∷ more) = IsInTable name × AreInTable more
+
 -- a folder with these names is a recording's: some file has what was recorded, and each may be there
-pub record WasRecorded (names : List (List ℕ)) : Type 0 where
-  pub name : List ℕ
-  pub is_there : Contains names name
-  pub recorded : IsRecorded name
-  pub table : All IsInTable names
+abbrev pub WasRecorded : List (List ℕ) → Type 0
+WasRecorded names = HasRecorded names × AreInTable names

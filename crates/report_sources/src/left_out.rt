@@ -4,7 +4,8 @@ use crate::inputs::Named;
 use fault_texts::Origin;
 use persist_report_core::CliFault;
 use report_asks::DASH;
-use report_streams::{Context, Failure, remedies_of};
+use report_streams::{Context, Failure, Sentence, remedies_of};
+use std::alloc::{AllocError, Global};
 use std::fmt;
 use sum_commands::{InputFault, Left};
 
@@ -67,6 +68,26 @@ pub fn first_failure<R: AllocGlobal>(
     for one in left {
         if let Some(name) = names.get(one.place) {
             return Err(input_failure(context, one.fault, name.path.as_str()));
+        }
+    }
+    Ok(())
+}
+
+/// Appends what is reported of inputs that are left out, a sentence each. The only error is that memory runs out.
+pub fn put_left(
+    alloc: Global,
+    names: &[Named],
+    left: &[Left],
+    sentences: &mut Vec<Sentence>,
+) -> Result<(), AllocError> {
+    for one in left {
+        if let Some(name) = names.get(one.place) {
+            let line = LeftLine {
+                fault: &one.fault,
+                origin: origin_of(name.path.as_str()),
+            };
+            let text: String = format!(in alloc; "{line}")?;
+            sentences.push(Sentence::of(alloc, text.as_str())?)?;
         }
     }
     Ok(())

@@ -2,7 +2,7 @@
 
 use crate::found::Found;
 use crate::inputs::Named;
-use crate::left_out::{first_failure, input_failure, path_of, tell_left};
+use crate::left_out::{first_failure, input_failure, path_of, put_left};
 use crate::looks::{Looks, input_of_look, read_looks};
 use crate::minus::less_earlier;
 use crate::opened::{OneFile, Opened};
@@ -12,7 +12,7 @@ use fault_texts::Origin;
 use persist_report_core::read_input;
 use reading_sums::Sums;
 use report_asks::Inputs;
-use report_streams::{Context, Failure, Noted, System, failed};
+use report_streams::{Context, Failure, Noted, Sentence, System, failed};
 use std::io::Read;
 use std::sync::Wait;
 use std::thread::Threads;
@@ -73,11 +73,13 @@ fn read_totals<R: AllocGlobal, F: Read + Drop, I: Read + Drop>(
     }
 }
 
-// Adds up inputs by their names. Those that cannot be read are reported and left out, or the first of them ends it.
+// Adds up inputs by their names. Those that cannot be read are left out, and `sentences` gets what is reported of them, or
+// the first of them ends it.
 fn read_many<R: System + Threads + Wait>(
     context: &Context<'_, R>,
     names: &[Named],
     inputs: &Inputs<'_>,
+    sentences: &mut Vec<Sentence>,
 ) -> Result<Found, Failure> {
     let how = HowRead {
         is_live: inputs.is_live,
@@ -95,7 +97,7 @@ fn read_many<R: System + Threads + Wait>(
     if inputs.is_strict {
         first_failure(context, names, left)?;
     } else {
-        tell_left(context.rt, names, &left);
+        put_left(context.alloc(), names, &left, sentences)?;
     }
     let sums = match inputs.earlier {
         Some(earlier) => less_earlier(context, sums, earlier, how.workers)?,
@@ -106,18 +108,20 @@ fn read_many<R: System + Threads + Wait>(
 }
 
 impl<F: Read + Drop, I: Read + Drop> Opened<'_, F, I> {
-    /// Reads what was opened for these inputs. Of many inputs those that cannot be read are reported and left out, or
-    /// the first of them ends it if the inputs are strict.
+    /// Reads what was opened for these inputs. Of many inputs those that cannot be read are left out, or the first of
+    /// them ends it if the inputs are strict. What is to be reported of them is appended to `sentences`, also if something
+    /// else ends it.
     pub fn read<R: System + Threads + Wait>(
         self,
         context: &Context<'_, R>,
         inputs: &Inputs<'_>,
+        sentences: &mut Vec<Sentence>,
     ) -> Result<Found, Failure> {
         match self {
             Opened::One(file) => read_one(context, file),
             Opened::Totals(file) => read_totals(context, file),
             Opened::Look(looks) => read_look(context, looks),
-            Opened::Many(names) => read_many(context, &names, inputs),
+            Opened::Many(names) => read_many(context, &names, inputs, sentences),
         }
     }
 }

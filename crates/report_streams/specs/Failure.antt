@@ -5,7 +5,7 @@ use Rattle.sum_commands.specs.declared.fault.InputFault.{InputFault}
 use Rattle.sum_commands.specs.declared.fault.InputFault.TheVariants as of_input
 use Rattle.persist_report_core.specs.declared.fault.CliFault.TheVariants.{Read, Write, TooLong, NotWords, Image, BadLine, Refused, Gate, Merge, NoThread, NoMemory, Adopt, NoSegment, NoHistogram, Bad, Stopped, Changed, Clash}
 use Rattle.report_streams.specs.declared.failure.Failure.{Failure}
-use Rattle.report_streams.specs.declared.failure.Failure.TheVariants.{Usage, Fault, Explained, Busy, Scale, Input, Since, TooMany, NotWhole, Left}
+use Rattle.report_streams.specs.declared.failure.Failure.TheVariants.{Usage, Fault, Explained, Busy, Scale, Input, Since, TooMany, NotWhole, Left, Reported}
 use Rattle.report_streams.specs.declared.lock.Unopened.{Unopened}
 use Rattle.report_streams.specs.declared.lock.Unopened.TheVariants as unopened
 
@@ -39,7 +39,8 @@ input_status of_input.TooMany = 3
 
 -- the status of a failure: 2 for a mistake in the command line, 4 for a file that another process has
 -- locked, and 3 for a scale that has a fault, for a sum to subtract that is not part of the other, for a
--- difference that does not fit, for an image that is not whole, and for inputs that were left out
+-- difference that does not fit, for an image that is not whole, and for inputs that were left out; of what was reported, the
+-- one that was kept
 abbrev pub failure_status : Failure → ℕ
 failure_status (Usage wrong) = 2
 failure_status (Fault fault) = fault_status fault
@@ -51,6 +52,36 @@ failure_status (Since fault name lines) = 3
 failure_status (TooMany lines) = 3
 failure_status (NotWhole lines) = 3
 failure_status Left = 3
+failure_status (Reported kept) = kept.status
+
+-- a failure that ends a command which writes its text again and again: a mistake in the command line, or a fault of what is
+-- written
+abbrev pub EndsRounds : Failure → Type 0
+EndsRounds (Usage wrong) = ⊤
+EndsRounds (Fault fault) = fault ≡ Write
+EndsRounds (Explained fault lines) = fault ≡ Write
+EndsRounds (Busy lines) = ⊥
+EndsRounds (Scale fault lines) = ⊥
+EndsRounds (Input fault name lines) = ⊥
+EndsRounds (Since fault name lines) = ⊥
+EndsRounds (TooMany lines) = ⊥
+EndsRounds (NotWhole lines) = ⊥
+EndsRounds Left = ⊥
+EndsRounds (Reported kept) = ⊥
+
+-- a failure that was reported, so that nothing is said of it
+abbrev pub IsReported : Failure → Type 0
+IsReported (Usage wrong) = ⊥
+IsReported (Fault fault) = ⊥
+IsReported (Explained fault lines) = ⊥
+IsReported (Busy lines) = ⊥
+IsReported (Scale fault lines) = ⊥
+IsReported (Input fault name lines) = ⊥
+IsReported (Since fault name lines) = ⊥
+IsReported (TooMany lines) = ⊥
+IsReported (NotWhole lines) = ⊥
+IsReported Left = ⊤
+IsReported (Reported kept) = ⊤
 
 -- why a file is not locked: another process has its lock, or the system cannot lock it
 abbrev pub IsBusyOrWrite : Unopened → Type 0

@@ -1,15 +1,17 @@
 //! Why the program did not do what it was asked to, and its exit status then.
 
-ghost use Rattle.std.specs.Prelude.{◌≡◌};
-ghost use Rattle.report_streams.specs.Failure.{failure_status, fault_status, input_status};
+ghost use Rattle.std.specs.Prelude.{◌≡◌, ◌<◌, ◌↔◌, true, IsNone, IfOk};
+ghost use Rattle.report_streams.specs.Failure.{EndsRounds, IsReported, failure_status, fault_status, input_status};
 ghost use Rattle.report_streams.specs.declared.failure.Failure.TheVariants.{Fault, Usage};
 ghost use Rattle.persist_report_core.specs.declared.fault.CliFault.TheVariants.{NoMemory};
 
+use crate::reported::Reported;
+use crate::sentence::Sentence;
 use bucket_ranges::SpecFault;
 use fault_texts::Shown;
 use persist_report_core::CliFault;
 use report_asks::Wrong;
-use std::alloc::AllocError;
+use std::alloc::{AllocError, Global};
 use std::fmt;
 use sum_commands::InputFault;
 
@@ -46,13 +48,16 @@ pub enum Failure {
     NotWhole(String),
     /// Some inputs were left out, as was reported.
     Left,
+    /// What failed was reported, and has this exit status.
+    Reported(Reported),
 }
 
 impl Failure {
-    /// Returns the exit status: 2 for `Usage`, 4 for `Busy`, 3 for `Scale`, `Since`, `TooMany`, `NotWhole` and `Left`,
-    /// else that of the fault.
+    /// Returns the exit status [status]: 2 for `Usage`, 4 for `Busy`, 3 for `Scale`, `Since`, `TooMany`, `NotWhole` and
+    /// `Left`, else that of the fault, or the one that was kept. It is never 0 [failed].
     pub fn status(&self) -> u8
-        ensures { result ≡ failure_status self.now }
+        ensures status { result ≡ failure_status self.now }
+        ensures failed { 0 < result }
     {
         match self {
             Failure::Usage(_) => 2,
@@ -62,13 +67,54 @@ impl Failure {
             Failure::Input { fault, .. } => input_status(fault),
             Failure::Since { .. } | Failure::TooMany(_) => 3,
             Failure::NotWhole(_) | Failure::Left => 3,
+            Failure::Reported(reported) => reported.status,
         }
     }
+
+    /// Returns whether it ends a command that writes its text again and again: a mistake in the command line, or a fault
+    /// of what is written.
+    pub fn ends_rounds(&self) -> bool
+        ensures { (result ≡ true) ↔ EndsRounds self.now }
+    {
+        match self {
+            Failure::Usage(_) => true,
+            Failure::Fault(fault) | Failure::Explained(fault, _) => is_write(fault),
+            _ => false,
+        }
+    }
+
+    // Whether it was reported, so that nothing is said of it.
+    fn is_reported(&self) -> bool
+        ensures { (result ≡ true) ↔ IsReported self.now }
+    {
+        matches!(self, Failure::Left | Failure::Reported(_))
+    }
+
+    /// Returns the sentence for the error stream; none exactly if it was reported. The only error is that memory runs
+    /// out.
+    pub fn sentence(&self, alloc: Global) -> Result<Option<Sentence>, AllocError>
+        ensures { IfOk result (λ sentence. IsNone sentence ↔ IsReported self.now) }
+    {
+        if self.is_reported() {
+            return Ok(None);
+        }
+        let text: String = format!(in alloc; "{self}")?;
+        let sentence = Sentence::of(alloc, text.as_str())?;
+        Ok(Some(sentence))
+    }
+}
+
+// Whether a fault is that of a write.
+fn is_write(fault: &CliFault) -> bool
+    ensures { (result ≡ true) ↔ (fault.now ≡ CliFault.Write) }
+{
+    *fault == CliFault::Write
 }
 
 // The exit status of a fault of an input: that of its image, or 3.
 fn input_status(fault: &InputFault) -> u8
-    ensures { result ≡ input_status fault.now }
+    ensures status { result ≡ input_status fault.now }
+    ensures failed { 0 < result }
 {
     match fault {
         InputFault::Image(fault) => fault_status(fault),
@@ -79,7 +125,8 @@ fn input_status(fault: &InputFault) -> u8
 /// Returns the exit status of a fault: 3 if the bytes are no image or no script, what they ask for is refused, or what
 /// they should have is not there; 4 if a device failed; 5 if a thread could not be started or memory ran out.
 fn fault_status(fault: &CliFault) -> u8
-    ensures { result ≡ fault_status fault.now }
+    ensures status { result ≡ fault_status fault.now }
+    ensures failed { 0 < result }
 {
     match fault {
         CliFault::TooLong | CliFault::NotWords | CliFault::Image(_) => 3,
@@ -133,7 +180,7 @@ impl fmt::Display for Failure {
             }
             Failure::TooMany(lines) => write!(f, "persist_report: TooMany\n{lines}"),
             Failure::NotWhole(lines) => write!(f, "persist_report: NotWhole\n{lines}"),
-            Failure::Left => Ok(()),
+            Failure::Left | Failure::Reported(_) => Ok(()),
         }
     }
 }

@@ -2,7 +2,7 @@
 //!
 //! A file that a command writes is the old one or the whole new one (`output.rt`). What fails is noted where it fails
 //! (`noted.rt`), and each fault has a status (`failure.rt`) and, if that is asked for, lines that explain it
-//! (`explaining.rt`).
+//! (`explaining.rt`). A command that writes its text again and again says each fault once (`telling.rt`).
 #![tactic(auto)]
 
 mod cause;
@@ -18,7 +18,10 @@ mod noted;
 mod opening;
 mod output;
 mod part;
+mod reported;
+mod sentence;
 mod system;
+mod telling;
 mod terminal;
 
 pub use cause::Cause;
@@ -33,5 +36,8 @@ pub use noted::{Noted, Stream};
 pub use opening::{open, open_out};
 pub use output::Output;
 pub use part::Part;
+pub use reported::Reported;
+pub use sentence::Sentence;
 pub use system::System;
+pub use telling::Telling;
 pub use terminal::{columns, reads_terminal, tells_terminal};

@@ -30,7 +30,7 @@ told before now = flat_map (news_of before) now ++ over before now
 pub record HasOwn (left : List Sentence) (failure : Failure) (all : List Sentence) : Type 0 where
   pub own : Option Sentence
   pub reported : IsNone own ↔ IsReported failure
-  pub all : all ≡ left ++ option_to_list own
+  pub is : all ≡ left ++ option_to_list own
 
 -- what is wrong in a round with this outcome, which left out these inputs
 abbrev pub AreWrong : List Sentence → Result (Unit {0}) Failure → List Sentence → Type 0

@@ -32,6 +32,8 @@ OVER = "no fault any more"
 NO_IMAGE = bytes(1000)
 # The rounds on a terminal.
 ROUNDS = 6
+# The words of a segment whose bytes are no part of memory that a program has already.
+LARGE = 1 << 17
 # The files that the program may have open where it is to open no other: its three streams.
 STREAMS = 3
 
@@ -60,7 +62,7 @@ class Stepped(tracer.Fault):
 
 
 def in_rounds(program: pathlib.Path, words: Sequence[Word], steps: Sequence[Step]) -> tuple[Answer, int]:
-    """What the program returns of as many rounds as there are steps, and one before them; and how many it waited for."""
+    """What the program returns of as many rounds as there are steps, and one before them; how many it waited for."""
     change = Stepped(SLEEPS, at=0, lasting=True, error=0, steps=steps)
     again = ["--live", "--every", "60", "--count", str(len(steps) + 1)]
     return tracer.answer(program, [*words, *again], change), change.done
@@ -80,7 +82,7 @@ def wrong_rounds(
     status: int,
     mark: bytes = b"",
 ) -> str | None:
-    """What is wrong with rounds, or None. They are to write these texts, each but the first below a line of the time."""
+    """What is wrong with rounds, or None. They have to write these texts, below lines of the time but for the first."""
     came, done = in_rounds(program, words, steps)
     form = (mark + TIME).join(re.escape(text) for text in texts)
     if not re.fullmatch(form, came.output):
@@ -145,6 +147,26 @@ def one_file(program: pathlib.Path, folder: pathlib.Path, closed: pathlib.Path) 
     )
 
 
+def too_little_memory(program: pathlib.Path, folder: pathlib.Path, closed: pathlib.Path) -> Iterator[Case]:
+    """A file for which there is too little memory for two rounds."""
+    file, large, script = folder / "growing", folder / "large", folder / "large.csv"
+    script.write_text(f"segment,{LARGE},1024,7\nhist,one,boolean\nadd,one,1,3\n")
+    assert answer(program, ["run", script, large]).status == 0
+    shutil.copy(closed, file)
+    metrics = [answer(program, ["export"], look_of(image)).output for image in (closed, large)]
+    free = resource.getrlimit(resource.RLIMIT_AS)[0]
+
+    def grow(process: int) -> None:
+        shutil.copy(large, file)
+        pages = int(pathlib.Path(f"/proc/{process}/statm").read_text().split()[0])
+        to_limit(resource.RLIMIT_AS, pages * resource.getpagesize())(process)
+
+    yield "too little memory", wrong_rounds(
+        program, ["export", file], [grow, nothing, to_limit(resource.RLIMIT_AS, free)], metrics,
+        told("NoMemory", OVER), 0, b"# ",
+    )  # fmt: skip
+
+
 def after_the_text(program: pathlib.Path, folder: pathlib.Path, closed: pathlib.Path) -> Iterator[Case]:
     """Faults that come after the text of each round."""
     file, script = folder / "named", folder / "script"
@@ -200,8 +222,9 @@ def several(program: pathlib.Path, folder: pathlib.Path, closed: pathlib.Path) -
     )  # fmt: skip
     none = answer(program, ["export", "--live", folder / "none", folder / "none"]).output
     yield "inputs that are left out", wrong_rounds(
-        program, ["export", one, other], [damage, remove, nothing], [both, came.output, none, none], told(*left), 3, b"# "
-    )
+        program, ["export", one, other], [damage, remove, nothing], [both, came.output, none, none], told(*left), 3,
+        b"# ",
+    )  # fmt: skip
     yield "a folder that comes back", wrong_rounds(
         program, ["export", inputs],
         [lambda process: inputs.rename(away), nothing, lambda process: away.rename(inputs)],
@@ -283,6 +306,7 @@ def cases(program: pathlib.Path, options: argparse.Namespace) -> Iterator[Case]:
             yield untried(tracer.NOT_ALLOWED, options)
             return
         yield from one_file(program, folder, closed)
+        yield from too_little_memory(program, folder, closed)
         yield from after_the_text(program, folder, closed)
         yield from several(program, folder, closed)
         yield from outputs(program, folder, closed)

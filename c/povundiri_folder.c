@@ -17,6 +17,9 @@
 /* How often the texts of a folder begin again. */
 enum { MOST_TIMES = 16 };
 
+/* How much of the end of totals is read at first: as a rule they name the segments of one fold. */
+enum { SHORT_END = 16384 };
+
 /* ---- What is open in this process ---- */
 
 /* Held while a descriptor is opened or closed, and while the process forks. */
@@ -347,22 +350,25 @@ void povundiri_parts_free(struct povundiri_totals_file *totals) {
     free(totals->of);
 }
 
-/* Reads a file whole, with a zero after it. It is for free(). */
-static int read_file(int folder, const char *name, char **bytes, size_t *length) {
-    struct povundiri_held held;
+/* Opens the file `totals`, and says how long it is. 0, or the system's fault, and then it is not open. */
+static int open_totals(struct povundiri_held *held, int folder, uint64_t *bytes) {
     struct stat about;
-    int fault = povundiri_parts_open(&held, folder, name, O_RDONLY);
-    *bytes = NULL;
-    *length = 0;
+    int fault = povundiri_parts_open(held, folder, "totals", O_RDONLY);
     if (fault != 0) return fault;
-    if (fstat(held.descriptor, &about) != 0) fault = errno;
+    if (fstat(held->descriptor, &about) != 0) fault = errno;
     if (fault == 0 && !S_ISREG(about.st_mode)) fault = EINVAL;
-    if (fault == 0) {
-        *bytes = (char *)malloc((size_t)about.st_size + 1);
-        fault = *bytes == NULL ? ENOMEM : povundiri_parts_read(held.descriptor, *bytes, (size_t)about.st_size, 0, length);
-    }
-    if (fault == 0) (*bytes)[*length] = 0;
-    povundiri_parts_close(&held);
+    if (fault != 0) povundiri_parts_close(held);
+    *bytes = fault == 0 ? (uint64_t)about.st_size : 0;
+    return fault;
+}
+
+/* Reads so many bytes from there on, or those up to the end, with a zero after them. They are for free(), also after a fault. */
+static int read_text(int descriptor, uint64_t at, size_t bytes, char **text, size_t *length) {
+    int fault;
+    *text = (char *)malloc(bytes + 1);
+    if (*text == NULL) return ENOMEM;
+    fault = povundiri_parts_read(descriptor, *text, bytes, (off_t)at, length);
+    if (fault == 0) (*text)[*length] = 0;
     return fault;
 }
 
@@ -391,11 +397,51 @@ static int parse_totals(struct povundiri_totals_file *totals) {
 /* No file is a totals without text. */
 int povundiri_parts_totals(int folder, struct povundiri_totals_file *totals) {
     const struct povundiri_totals_file none = {NULL, 0, NULL, 0, 0};
-    int fault;
+    struct povundiri_held held;
+    uint64_t bytes;
+    int fault = open_totals(&held, folder, &bytes);
     *totals = none;
-    fault = read_file(folder, "totals", &totals->text, &totals->length);
-    if (fault == ENOENT) return 0;
+    if (fault != 0) return fault == ENOENT ? 0 : fault;
+    fault = read_text(held.descriptor, 0, (size_t)bytes, &totals->text, &totals->length);
+    povundiri_parts_close(&held);
     return fault == 0 ? parse_totals(totals) : fault;
+}
+
+/* The greatest number in the lines of a text that name segments. Its first line may be cut. Whether there are lines before them, so that none
+ * is missing. */
+static bool find_greatest(const char *text, uint64_t *number) {
+    const char *line = strchr(text, '\n');
+    bool has_others = false;
+    *number = 0;
+    for (; line != NULL && line[1] != 0; line = strchr(line + 1, '\n')) {
+        if (strncmp(line + 1, "of,", 3) == 0) {
+            const uint64_t named = strtoull(line + 4, NULL, 10);
+            if (named > *number) *number = named;
+        } else if (*number == 0) {
+            has_others = true;
+        }
+    }
+    return has_others;
+}
+
+int povundiri_parts_greatest_named(int folder, uint64_t *number) {
+    struct povundiri_held held;
+    uint64_t bytes, wanted = SHORT_END;
+    size_t length;
+    bool is_whole = false;
+    int fault = open_totals(&held, folder, &bytes);
+    *number = 0;
+    if (fault != 0) return fault == ENOENT ? 0 : fault;
+    while (fault == 0 && !is_whole) {
+        const uint64_t at = bytes > wanted ? bytes - wanted : 0;
+        char *text;
+        fault = read_text(held.descriptor, at, (size_t)(bytes - at), &text, &length);
+        if (fault == 0) is_whole = find_greatest(text, number) || at == 0;
+        free(text);
+        wanted *= 8;
+    }
+    povundiri_parts_close(&held);
+    return fault;
 }
 
 bool povundiri_parts_names(const struct povundiri_totals_file *totals, uint64_t number, uint64_t id) {

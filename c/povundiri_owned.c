@@ -12,6 +12,9 @@
 
 #include "povundiri_folder_parts.h"
 
+/* After so many numbers that others have taken, the folder is looked through for the greatest. */
+enum { MOST_TAKEN = 32 };
+
 static struct povundiri_owned *new_owned(void) { return (struct povundiri_owned *)calloc(1, sizeof(struct povundiri_owned)); }
 
 static int folder_of(const struct povundiri_place *place) { return place->is_open ? place->held.descriptor : -1; }
@@ -61,6 +64,10 @@ void povundiri_folder_release(const struct povundiri_place *place, struct povund
     if (owned->segment.held) povundiri_drop(&owned->segment);
     povundiri_file_close(&owned->file);
     free(owned);
+}
+
+static void note_last(struct povundiri_place *place, uint64_t number) {
+    if (place->last < number) place->last = number;
 }
 
 /* Whether nothing was begun in it. */
@@ -182,7 +189,7 @@ static uint32_t adopt_number(const struct povundiri_place *place, struct povundi
     return POVUNDIRI_DONE;
 }
 
-uint32_t povundiri_folder_adopt(const struct povundiri_place *place, struct povundiri_shape shape, bool is_start,
+uint32_t povundiri_folder_adopt(struct povundiri_place *place, struct povundiri_shape shape, bool is_start,
                                 struct povundiri_found *found, int *fault) {
     struct povundiri_listing listing;
     uint32_t status = POVUNDIRI_DONE;
@@ -190,6 +197,7 @@ uint32_t povundiri_folder_adopt(const struct povundiri_place *place, struct povu
     memset(found, 0, sizeof *found);
     *fault = povundiri_parts_list(folder_of(place), &listing);
     if (*fault != 0) status = POVUNDIRI_SYSTEM;
+    note_last(place, listing.last);
     for (i = listing.count; i > 0 && status == POVUNDIRI_DONE && found->newest == NULL; i -= 1) {
         status = adopt_number(place, shape, listing.numbers[i - 1], is_start && i == listing.count, found);
     }
@@ -256,20 +264,21 @@ uint32_t povundiri_folder_spare(struct povundiri_place *place, struct povundiri_
     return status;
 }
 
-/* The number after those of all segments that are there, and of all that the totals name. */
-static int next_number(int folder, uint64_t *number) {
+/* Looks through the folder for the greatest number. */
+static int look_for_last(struct povundiri_place *place) {
     struct povundiri_listing listing;
-    struct povundiri_totals_file totals;
-    size_t i;
-    int fault = povundiri_parts_list(folder, &listing);
+    const int fault = povundiri_parts_list(folder_of(place), &listing);
     free(listing.numbers);
-    if (fault != 0) return fault;
-    fault = povundiri_parts_totals(folder, &totals);
-    for (i = 0; i < totals.count; i += 1) {
-        if (totals.of[i].number > listing.last) listing.last = totals.of[i].number;
-    }
-    povundiri_parts_free(&totals);
-    *number = listing.last + 1;
+    if (fault == 0) note_last(place, listing.last);
+    return fault;
+}
+
+/* Notes the greatest number that is known of a folder. */
+static int know_last(struct povundiri_place *place) {
+    uint64_t named = 0;
+    int fault = place->last == 0 ? look_for_last(place) : 0;
+    if (fault == 0) fault = povundiri_parts_greatest_named(folder_of(place), &named);
+    if (fault == 0) note_last(place, named);
     return fault;
 }
 
@@ -285,19 +294,34 @@ static int link_to(struct povundiri_place *place, const struct povundiri_owned *
     return fault == ENOENT || fault == EACCES ? EAGAIN : fault;
 }
 
+/* Gives a spare the name of this number. EEXIST if a segment or a damaged file has it. */
+static int link_number(struct povundiri_place *place, const struct povundiri_owned *spare, uint64_t number, char *name) {
+    struct stat about;
+    povundiri_parts_name_of(name, number, "damaged");
+    if (fstatat(folder_of(place), name, &about, AT_SYMLINK_NOFOLLOW) == 0) return EEXIST;
+    povundiri_parts_name_of(name, number, "seg");
+    return link_to(place, spare, name);
+}
+
+/* Gives it the next number, if that is free. */
+static int take_next(struct povundiri_place *place, struct povundiri_owned *spare, char *name) {
+    const uint64_t number = place->last + 1;
+    const int fault = link_number(place, spare, number, name);
+    if (fault == 0 || fault == EEXIST) place->last = number;
+    return fault;
+}
+
 int povundiri_folder_commit(struct povundiri_place *place, struct povundiri_owned *spare) {
     char name[LONGEST_NAME];
-    uint64_t number = 0;
-    int fault = next_number(folder_of(place), &number);
-    if (fault != 0) return fault;
-    do {
-        povundiri_parts_name_of(name, number, "seg");
-        fault = link_to(place, spare, name);
-        if (fault == EEXIST) number += 1;
-    } while (fault == EEXIST);
+    int fault = know_last(place), taken;
+    if (fault == 0) fault = take_next(place, spare, name);
+    for (taken = 1; fault == EEXIST; taken += 1) {
+        fault = taken % MOST_TAKEN == 0 ? look_for_last(place) : 0;
+        if (fault == 0) fault = take_next(place, spare, name);
+    }
     if (fault != 0) return fault;
     if (spare->name[0] != 0) unlinkat(folder_of(place), spare->name, 0);
-    spare->number = number;
+    spare->number = place->last;
     memcpy(spare->name, name, sizeof name);
     begin(place, spare);
     return 0;

@@ -2,17 +2,15 @@
 // the calls return, no recorder is lost and none is joined twice: in the end both segments have all their units again. The classes of
 // povundiri.hpp do not let it come to this: they know which segment a recorder is of.
 
-#include <atomic>
 #include <cstdint>
-#include <thread>
 
 #include "checks.h"
+#include "meeting.h"
 
 namespace {
 
 constexpr povundiri_shape kShape = {1024, 256, 0, 0, 2};
 constexpr std::uint32_t kShare = 1000;
-constexpr int kRounds = 5000;
 
 // The handle of a segment, or of a recorder.
 struct Handle {
@@ -23,36 +21,25 @@ struct Handle {
     povundiri_handle it{};
 };
 
-// What two joins return that begin at the same moment.
-struct Answers {
-    std::uint32_t first = POVUNDIRI_NULL;
-    std::uint32_t second = POVUNDIRI_NULL;
+// A join: a recorder is passed to a segment.
+struct Join {
+    Handle& segment;
+    Handle recorder{};
+    std::uint32_t status = POVUNDIRI_NULL;
 };
 
-Answers joined_together(Handle& first, Handle& one, Handle& second, Handle& other) {
-    Answers answers;
-    std::atomic<int> ready{0};
-    const auto meet = [&] {
-        ++ready;
-        while (ready < 2) std::this_thread::yield();
-    };
-    std::thread beside([&] {
-        meet();
-        answers.first = povundiri_join(&first.it, &one.it);
-    });
-    meet();
-    answers.second = povundiri_join(&second.it, &other.it);
-    beside.join();
-    return answers;
+void make(void* join) {
+    Join& made = *static_cast<Join*>(join);
+    made.status = povundiri_join(&made.segment.it, &made.recorder.it);
 }
 
 // A join that is done, or was done elsewhere, leaves its handle empty; one that is refused leaves it full, and then its own segment takes
 // it.
-void comes_home(std::uint32_t answer, Handle& recorder, Handle& own) {
-    const bool met = answer == POVUNDIRI_DONE || answer == POVUNDIRI_ELSEWHERE;
-    HOLDS(met || answer == POVUNDIRI_OTHER_SEGMENT || answer == POVUNDIRI_BUSY);
-    HOLDS(met != recorder.it.held);
-    if (recorder.it.held) DONE(povundiri_join(&own.it, &recorder.it));
+void comes_home(Join& join, Handle& own) {
+    const bool is_joined = join.status == POVUNDIRI_DONE || join.status == POVUNDIRI_ELSEWHERE;
+    HOLDS(is_joined || join.status == POVUNDIRI_OTHER_SEGMENT || join.status == POVUNDIRI_BUSY);
+    HOLDS(is_joined != join.recorder.it.held);
+    if (join.recorder.it.held) DONE(povundiri_join(&own.it, &join.recorder.it));
 }
 
 void is_whole(Handle& segment) {
@@ -62,33 +49,34 @@ void is_whole(Handle& segment) {
     HOLDS(units == UINT32_MAX && outstanding == 0);
 }
 
-// Whether one of two joins met the other: alone, a join is done or returns that the recorder is of another segment.
-bool met(const Answers& answers) {
-    const auto by = [](std::uint32_t answer) { return answer == POVUNDIRI_ELSEWHERE || answer == POVUNDIRI_BUSY; };
-    return by(answers.first) || by(answers.second);
+// Whether a join did not meet the other one: then it is done, or returns that the recorder is of another segment.
+bool was_alone(void* join) {
+    const std::uint32_t status = static_cast<Join*>(join)->status;
+    return status != POVUNDIRI_ELSEWHERE && status != POVUNDIRI_BUSY;
 }
 
-// The first recorder is of the other segment; so is the second, if both cross. Where one crosses, the two have to meet in some rounds: then
-// a join takes long enough. Both cross too quickly for that to be certain.
+// The first recorder is of the other segment; so is the second, if both cross. The first join is the one that is stopped.
 void cross(bool both) {
     Handle here, there;
-    int meetings = 0;
+    Handle& home = both ? here : there;
+    meeting joins;
     DONE(povundiri_create(kShape, &here.it));
     DONE(povundiri_create(kShape, &there.it));
-    for (int round = 0; round < kRounds && failed_here == 0; ++round) {
-        Handle one, other;
-        Handle& home = both ? here : there;
-        DONE(povundiri_recorder(&there.it, kShare, &one.it));
-        DONE(povundiri_recorder(&home.it, kShare, &other.it));
-        const Answers answers = joined_together(here, one, there, other);
-        meetings += met(answers) ? 1 : 0;
-        HOLDS(both || answers.first != POVUNDIRI_DONE);
-        comes_home(answers.first, one, there);
-        comes_home(answers.second, other, home);
+    Join one{here}, other{there};
+    HOLDS(meeting_begins(&joins, make, was_alone, &other, &one));
+    if (failed_here != 0) return;
+    while (failed_here == 0 && meeting_goes_on(&joins)) {
+        DONE(povundiri_recorder(&there.it, kShare, &one.recorder.it));
+        DONE(povundiri_recorder(&home.it, kShare, &other.recorder.it));
+        meeting_round(&joins);
+        HOLDS(both || one.status != POVUNDIRI_DONE);
+        comes_home(one, there);
+        comes_home(other, home);
         is_whole(here);
         is_whole(there);
     }
-    HOLDS(both || meetings > 0);
+    HOLDS(meeting_ends(&joins));
+    HOLDS(joins.meetings >= LEAST_MEETINGS);
 }
 
 void one_crosses() { cross(false); }

@@ -2,12 +2,10 @@
  * calls return, no recorder and no unit is lost: in the end both segments have all their units again. */
 #define _POSIX_C_SOURCE 200809L
 
-#include <pthread.h>
-#include <sched.h>
-
 #include "checks.h"
+#include "meeting.h"
 
-enum { SHARE = 1000, LENT = 50, ROUNDS = 2500, MOST_ROUNDS = 500000 };
+enum { SHARE = 1000, LENT = 50 };
 
 /* What a thread does: it lends, or joins, a recorder by a handle to a segment by a handle. */
 struct pass {
@@ -17,28 +15,9 @@ struct pass {
     uint32_t status;
 };
 
-/* How many of the two threads are there. */
-static int ready;
-
-/* Waits until both threads are there, without sleeping, so that their calls begin within a few steps of each other. */
-static void meet(void) {
-    __atomic_fetch_add(&ready, 1, __ATOMIC_SEQ_CST);
-    while (__atomic_load_n(&ready, __ATOMIC_SEQ_CST) < 2) sched_yield();
-}
-
-static void *passed(void *argument) {
+static void make(void *argument) {
     struct pass *pass = argument;
-    meet();
     pass->status = pass->joins ? povundiri_join(pass->segment, pass->recorder) : povundiri_lend(pass->segment, pass->recorder, LENT);
-    return NULL;
-}
-
-static void pass_together(struct pass *one, struct pass *other) {
-    pthread_t thread;
-    ready = 0;
-    HOLDS(pthread_create(&thread, NULL, passed, one) == 0);
-    passed(other);
-    HOLDS(pthread_join(thread, NULL) == 0);
 }
 
 static bool is_empty(const struct pass *pass) {
@@ -52,9 +31,10 @@ static void answered(const struct pass *pass) {
     HOLDS(pass->recorder->held != is_empty(pass));
 }
 
-/* Whether the call met the other one: alone, it is done or returns that the recorder is of another segment. */
-static bool met(const struct pass *pass) {
-    return pass->status == POVUNDIRI_ELSEWHERE || pass->status == POVUNDIRI_BUSY;
+/* Whether the call did not meet the other one: then it is done, or returns that the recorder is of another segment. */
+static bool was_alone(void *argument) {
+    const struct pass *pass = argument;
+    return pass->status != POVUNDIRI_ELSEWHERE && pass->status != POVUNDIRI_BUSY;
 }
 
 /* The recorder in a handle, if there is one, is joined to its own segment. */
@@ -73,25 +53,24 @@ static void is_whole(struct povundiri_handle *segment) {
     HOLDS(units == UINT32_MAX && outstanding == 0);
 }
 
-/* The first thread lends a recorder of the other segment. The second lends or joins one to the other segment: a recorder of the first
- * segment if both cross, else one of the other segment itself, and then its call is done, or returns BUSY. Then they have to meet
- * in some round: where processors are busy there are more rounds until they have. Where both cross, they meet too rarely for that. */
+/* The first call lends a recorder of the other segment; it is the one that is stopped. The second lends or joins one to the other segment: a
+ * recorder of the first segment if both cross, else one of the other segment itself, and then its call is done, or returns BUSY. */
 static void cross(bool both, bool joins) {
     const struct povundiri_shape shape = {1024, 256, 7, 0, 2};
-    struct povundiri_handle here = {0}, there = {0};
-    int round, meetings = 0;
+    struct povundiri_handle here = {0}, there = {0}, one = {0}, other = {0};
+    struct pass wrong = {&here, &one, false, POVUNDIRI_NULL};
+    struct pass beside = {&there, &other, joins, POVUNDIRI_NULL};
+    struct meeting passes;
     DONE(povundiri_create(shape, &here));
     DONE(povundiri_create(shape, &there));
-    for (round = 0; (round < ROUNDS || (!both && meetings == 0 && round < MOST_ROUNDS)) && failed_here == 0; round += 1) {
-        struct povundiri_handle one = {0}, other = {0};
-        struct pass wrong = {&here, &one, false, POVUNDIRI_NULL};
-        struct pass beside = {&there, &other, joins, POVUNDIRI_NULL};
+    HOLDS(meeting_begins(&passes, make, was_alone, &beside, &wrong));
+    if (failed_here != 0) return;
+    while (failed_here == 0 && meeting_goes_on(&passes)) {
         DONE(povundiri_recorder(&there, SHARE, &one));
         DONE(povundiri_recorder(both ? &here : &there, SHARE, &other));
-        pass_together(&wrong, &beside);
+        meeting_round(&passes);
         answered(&wrong);
         answered(&beside);
-        meetings += met(&wrong) || met(&beside);
         if (!both) {
             HOLDS(wrong.status != POVUNDIRI_DONE);
             HOLDS(beside.status == POVUNDIRI_DONE || beside.status == POVUNDIRI_BUSY);
@@ -101,7 +80,8 @@ static void cross(bool both, bool joins) {
         is_whole(&here);
         is_whole(&there);
     }
-    HOLDS(both || meetings > 0);
+    HOLDS(meeting_ends(&passes));
+    HOLDS(passes.meetings >= LEAST_MEETINGS);
     DONE(povundiri_drop(&here));
     DONE(povundiri_drop(&there));
 }

@@ -80,8 +80,9 @@ uint32_t povundiri_recording_fold_if_due(struct povundiri_recording *recording) 
     return fold(recording, recording->options.fold_at, &folded, &fault);
 }
 
-/* Whether the folder may have so many segments: each has a number of its own, so there are no more than were counted last and have begun since,
- * in all processes. Where so many had stayed, since they are in use or another user's, that is not tried again before `fold_at` have begun. */
+/* Whether the folder may have so many segments: each has a number of its own, so there are no more than were counted last and have begun
+ * since, in all processes. Where so many had stayed, since they are in use or another user's, that is not tried again before `fold_at` have
+ * begun. */
 static bool may_have(struct povundiri_recording *recording, uint64_t many) {
     uint64_t begun;
     bool may;

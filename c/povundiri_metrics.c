@@ -98,8 +98,8 @@ static uint32_t try_in_page(struct povundiri_trial *trial, struct povundiri_shap
 
 static bool has_no_room(uint32_t status) { return status == POVUNDIRI_REFUSED_FULL || status == POVUNDIRI_REFUSED_TOO_LARGE; }
 
-/* Whether a name and a spec are such as a histogram may have, and whether it is too large for segments of this shape, since one page says this
- * to it. Most fit in one page, which takes a small part of the time of a whole segment. */
+/* Whether a name and a spec are such as a histogram may have, and whether it is too large for segments of this shape, since one page says
+ * this to it. Most fit in one page, which takes a small part of the time of a whole segment. */
 static uint32_t judge(struct povundiri_shape shape, const struct povundiri_metric *metric, uint32_t status, bool *is_it) {
     if (has_no_room(status)) status = try_in(shape, metric);
     *is_it = has_no_room(status);

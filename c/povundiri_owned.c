@@ -67,7 +67,7 @@ void povundiri_folder_release(const struct povundiri_place *place, struct povund
 }
 
 static void note_last(struct povundiri_place *place, uint64_t number) {
-    if (place->last < number) place->last = number;
+    if (place->last < number && number < NUMBERS_END) place->last = number;
 }
 
 /* Whether nothing was begun in it. */
@@ -79,19 +79,19 @@ static bool is_unmade(const struct povundiri_image *image) {
     return true;
 }
 
-/* Never over another file. */
+/* Gives a file another name, never over another file. */
+static int rename_to(int folder, const char *from, const char *to) {
+    if (renameat2(folder, from, folder, to, RENAME_NOREPLACE) == 0) return 0;
+    if (errno != EINVAL && errno != ENOSYS) return errno;
+    return linkat(folder, from, folder, to, 0) == 0 && unlinkat(folder, from, 0) == 0 ? 0 : errno;
+}
+
 static void set_aside(const struct povundiri_place *place, const struct povundiri_owned *owned, char *path) {
-    const int folder = folder_of(place);
     char name[LONGEST_NAME];
     int fault;
     povundiri_parts_name_of(name, owned->number, "damaged");
     fault = povundiri_parts_join(path, place->path, name);
-    if (fault == 0 && renameat2(folder, owned->name, folder, name, RENAME_NOREPLACE) != 0) {
-        fault = errno;
-        if (fault == EINVAL || fault == ENOSYS) {
-            fault = linkat(folder, owned->name, folder, name, 0) == 0 && unlinkat(folder, owned->name, 0) == 0 ? 0 : errno;
-        }
-    }
+    if (fault == 0) fault = rename_to(folder_of(place), owned->name, name);
     if (fault != 0) path[0] = 0;
 }
 
@@ -196,8 +196,11 @@ uint32_t povundiri_folder_adopt(struct povundiri_place *place, struct povundiri_
     size_t i;
     memset(found, 0, sizeof *found);
     *fault = povundiri_parts_list(folder_of(place), &listing);
-    if (*fault != 0) status = POVUNDIRI_SYSTEM;
-    note_last(place, listing.last);
+    if (*fault != 0) {
+        status = POVUNDIRI_SYSTEM;
+    } else {
+        note_last(place, listing.last);
+    }
     for (i = listing.count; i > 0 && status == POVUNDIRI_DONE && found->newest == NULL; i -= 1) {
         status = adopt_number(place, shape, listing.numbers[i - 1], is_start && i == listing.count, found);
     }
@@ -273,15 +276,6 @@ static int look_for_last(struct povundiri_place *place) {
     return fault;
 }
 
-/* Notes the greatest number that is known of a folder. */
-static int know_last(struct povundiri_place *place) {
-    uint64_t named = 0;
-    int fault = place->last == 0 ? look_for_last(place) : 0;
-    if (fault == 0) fault = povundiri_parts_greatest_named(folder_of(place), &named);
-    if (fault == 0) note_last(place, named);
-    return fault;
-}
-
 /* Gives a spare a name. The next spares have names from the beginning where one without a name gets none: there may be no /proc, or no
  * right to link what another user of this process has made. */
 static int link_to(struct povundiri_place *place, const struct povundiri_owned *spare, const char *name) {
@@ -294,35 +288,58 @@ static int link_to(struct povundiri_place *place, const struct povundiri_owned *
     return fault == ENOENT || fault == EACCES ? EAGAIN : fault;
 }
 
-/* Gives a spare the name of this number. EEXIST if a segment or a damaged file has it. */
-static int link_number(struct povundiri_place *place, const struct povundiri_owned *spare, uint64_t number, char *name) {
+/* Gives a segment the name of this number; a spare has lost its own then. EEXIST if a segment or a damaged file has the number. */
+static int take(struct povundiri_place *place, struct povundiri_owned *owned, uint64_t number) {
+    const int folder = folder_of(place);
+    char name[LONGEST_NAME];
     struct stat about;
+    int fault;
     povundiri_parts_name_of(name, number, "damaged");
-    if (fstatat(folder_of(place), name, &about, AT_SYMLINK_NOFOLLOW) == 0) return EEXIST;
+    if (fstatat(folder, name, &about, AT_SYMLINK_NOFOLLOW) == 0) return EEXIST;
     povundiri_parts_name_of(name, number, "seg");
-    return link_to(place, spare, name);
+    fault = owned->number == 0 ? link_to(place, owned, name) : rename_to(folder, owned->name, name);
+    if (fault != 0) return fault;
+    if (owned->number == 0 && owned->name[0] != 0) unlinkat(folder, owned->name, 0);
+    owned->number = number;
+    memcpy(owned->name, name, sizeof name);
+    return 0;
 }
 
 /* Gives it the next number, if that is free. */
-static int take_next(struct povundiri_place *place, struct povundiri_owned *spare, char *name) {
+static int take_next(struct povundiri_place *place, struct povundiri_owned *owned) {
     const uint64_t number = place->last + 1;
-    const int fault = link_number(place, spare, number, name);
+    const int fault = number < NUMBERS_END ? take(place, owned, number) : EOVERFLOW;
     if (fault == 0 || fault == EEXIST) place->last = number;
     return fault;
 }
 
-int povundiri_folder_commit(struct povundiri_place *place, struct povundiri_owned *spare) {
-    char name[LONGEST_NAME];
-    int fault = know_last(place), taken;
-    if (fault == 0) fault = take_next(place, spare, name);
+/* Gives it the first free number above the greatest that is known. */
+static int take_free(struct povundiri_place *place, struct povundiri_owned *owned) {
+    int fault = take_next(place, owned), taken;
     for (taken = 1; fault == EEXIST; taken += 1) {
         fault = taken % MOST_TAKEN == 0 ? look_for_last(place) : 0;
-        if (fault == 0) fault = take_next(place, spare, name);
+        if (fault == 0) fault = take_next(place, owned);
     }
+    return fault;
+}
+
+/* Whether the totals name this number, or a greater one, which is known then. Not if the system does not say. */
+static bool is_passed(struct povundiri_place *place, uint64_t number) {
+    uint64_t named = 0;
+    const bool is = povundiri_parts_greatest_named(folder_of(place), &named) == 0 && named >= number;
+    if (is) note_last(place, named);
+    return is;
+}
+
+/* The totals are read before and after: a fold may have removed segments of others meanwhile whose numbers were not known here. */
+int povundiri_folder_commit(struct povundiri_place *place, struct povundiri_owned *spare) {
+    uint64_t named = 0;
+    int fault = place->last == 0 ? look_for_last(place) : 0;
+    if (fault == 0) fault = povundiri_parts_greatest_named(folder_of(place), &named);
+    note_last(place, named);
+    if (fault == 0) fault = take_free(place, spare);
     if (fault != 0) return fault;
-    if (spare->name[0] != 0) unlinkat(folder_of(place), spare->name, 0);
-    spare->number = place->last;
-    memcpy(spare->name, name, sizeof name);
+    while (is_passed(place, spare->number) && take_free(place, spare) == 0) continue;
     begin(place, spare);
     return 0;
 }

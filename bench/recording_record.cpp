@@ -3,6 +3,8 @@
 //     recording_record FORM SHARING THREADS BURSTS
 //     recording_record rolls MILLISECONDS
 //     recording_record texts SHARDS
+//     recording_record metrics COUNT
+//     recording_record segments COUNT
 //
 // The words and what is printed are those of record.cpp. Each burst has a recording of its own, in a folder of its own. Before it, each
 // thread has counted a sample, and two of each mounted histogram, whose counts are in use then; all of them begin at the same time.
@@ -12,6 +14,12 @@
 //
 // With `texts` as many threads have counted in 60 scales of 1 to 10,000,000 in segments of 1 MiB, each in one of its own. It prints how many
 // microseconds a text for Prometheus, and a report, take at least.
+//
+// With `metrics` a recording in segments of 1 MiB is asked for so many new metrics. It prints how many nanoseconds the middle one takes, and
+// then the middle of as many segments of that size that are made in the heap, asked for one, and dropped.
+//
+// With `segments` as many segments of 16 KiB are begun in a folder, which stay there. It prints how many nanoseconds the sample that begins
+// one takes: the middle of the first hundred, and of the last.
 
 #include <algorithm>
 #include <atomic>
@@ -157,12 +165,64 @@ void texts(std::size_t shards) {
     std::printf("%.0f %.0f\n", least([&] { return recording.prometheus(); }), least([&] { return recording.report(); }));
 }
 
+double middle(std::vector<double> times) {
+    std::sort(times.begin(), times.end());
+    return times[times.size() / 2];
+}
+
+// How many nanoseconds each of so many calls takes.
+template <typename Call>
+std::vector<double> times_of(std::size_t count, const Call& call) {
+    std::vector<double> times;
+    for (std::size_t i = 0; i < count; ++i) {
+        const auto start = Clock::now();
+        call(i);
+        times.push_back(std::chrono::duration<double, std::nano>(Clock::now() - start).count());
+    }
+    return times;
+}
+
+void metrics(std::size_t count) {
+    const plain::Folder folder;
+    povundiri::Recording recording(folder.path());
+    std::vector<std::string> names;
+    for (std::size_t i = 0; i < count; ++i) names.push_back("metric_" + std::to_string(i));
+    const auto asked = times_of(count, [&](std::size_t i) { recording.linear(names[i], 1, 1000, 10); });
+    const auto made = times_of(count, [&](std::size_t i) {
+        povundiri::Segment segment(povundiri::shape_for(1 << 20, i + 1));
+        povundiri::Recorder recorder = segment.recorder();
+        if (!recorder.add(recorder.linear(names[i], 1, 1000, 10), 5)) std::abort();
+    });
+    std::printf("%.0f %.0f\n", middle(asked), middle(made));
+}
+
+void segments(std::size_t count) {
+    constexpr std::uint32_t kMost = 4'290'000'000;
+    const plain::Folder folder;
+    povundiri::RecordingOptions options;
+    options.bytes = 16'384;
+    options.apart = 1;
+    options.fold_at = UINT64_MAX;
+    options.shards = 1;
+    povundiri::Recording recording(folder.path(), options);
+    const povundiri::Metric metric = recording.linear("h", 1, 1000, 10);
+    const auto times = times_of(count, [&](std::size_t) {
+        if (!metric.add(1, kMost)) std::abort();
+    });
+    const auto end = static_cast<std::ptrdiff_t>(std::min<std::size_t>(count, 100));
+    std::printf("%.0f %.0f\n", middle({times.begin(), times.begin() + end}), middle({times.end() - end, times.end()}));
+}
+
 }  // namespace
 
 int main(int count, char** words) {
     if (count == 3) {
-        const int number = std::atoi(words[2]);
-        std::string_view(words[1]) == "texts" ? texts(static_cast<std::size_t>(number)) : rolls(std::chrono::milliseconds(number));
+        const std::string_view what(words[1]);
+        const auto number = static_cast<std::size_t>(std::atoi(words[2]));
+        if (what == "texts") texts(number);
+        if (what == "metrics") metrics(number);
+        if (what == "segments") segments(number);
+        if (what == "rolls") rolls(std::chrono::milliseconds(number));
         return 0;
     }
     if (count != 5) {

@@ -17,6 +17,9 @@
 /* How often the texts of a folder begin again. */
 enum { MOST_TIMES = 16 };
 
+/* How much of totals is read at once, from their end on: as a rule the names of one fold's segments are in it. */
+enum { PART_BYTES = 16384 };
+
 /* ---- What is open in this process ---- */
 
 /* Held while a descriptor is opened or closed, and while the process forks. */
@@ -253,8 +256,8 @@ static int list_name(void *context, const char *name) {
     if (strcmp(name, "recording") == 0) listing->is_marked = true;
     if (number > 0 || damaged > 0 || strcmp(name, "totals") == 0) listing->has_any = true;
     if (number == 0 && damaged == 0 && !is_in_table(name)) listing->has_others = true;
-    if (number > listing->last) listing->last = number;
-    if (damaged > listing->last) listing->last = damaged;
+    if (number > listing->last && number < NUMBERS_END) listing->last = number;
+    if (damaged > listing->last && damaged < NUMBERS_END) listing->last = damaged;
     if (number == 0) return 0;
     if (listing->count == listing->room) {
         const size_t room = listing->room == 0 ? 64 : 2 * listing->room;
@@ -347,22 +350,25 @@ void povundiri_parts_free(struct povundiri_totals_file *totals) {
     free(totals->of);
 }
 
-/* Reads a file whole, with a zero after it. It is for free(). */
-static int read_file(int folder, const char *name, char **bytes, size_t *length) {
-    struct povundiri_held held;
+/* Opens the file `totals`, and says how long it is. 0, or the system's fault, and then it is not open. */
+static int open_totals(struct povundiri_held *held, int folder, uint64_t *bytes) {
     struct stat about;
-    int fault = povundiri_parts_open(&held, folder, name, O_RDONLY);
-    *bytes = NULL;
-    *length = 0;
+    int fault = povundiri_parts_open(held, folder, "totals", O_RDONLY);
     if (fault != 0) return fault;
-    if (fstat(held.descriptor, &about) != 0) fault = errno;
+    if (fstat(held->descriptor, &about) != 0) fault = errno;
     if (fault == 0 && !S_ISREG(about.st_mode)) fault = EINVAL;
-    if (fault == 0) {
-        *bytes = (char *)malloc((size_t)about.st_size + 1);
-        fault = *bytes == NULL ? ENOMEM : povundiri_parts_read(held.descriptor, *bytes, (size_t)about.st_size, 0, length);
-    }
-    if (fault == 0) (*bytes)[*length] = 0;
-    povundiri_parts_close(&held);
+    if (fault != 0) povundiri_parts_close(held);
+    *bytes = fault == 0 ? (uint64_t)about.st_size : 0;
+    return fault;
+}
+
+/* Reads so many bytes from there on, or those up to the end, with a zero after them. They are for free(), also after a fault. */
+static int read_text(int descriptor, uint64_t at, size_t bytes, char **text, size_t *length) {
+    int fault;
+    *text = (char *)malloc(bytes + 1);
+    if (*text == NULL) return ENOMEM;
+    fault = povundiri_parts_read(descriptor, *text, bytes, (off_t)at, length);
+    if (fault == 0) (*text)[*length] = 0;
     return fault;
 }
 
@@ -391,11 +397,80 @@ static int parse_totals(struct povundiri_totals_file *totals) {
 /* No file is a totals without text. */
 int povundiri_parts_totals(int folder, struct povundiri_totals_file *totals) {
     const struct povundiri_totals_file none = {NULL, 0, NULL, 0, 0};
-    int fault;
+    struct povundiri_held held;
+    uint64_t bytes;
+    int fault = open_totals(&held, folder, &bytes);
     *totals = none;
-    fault = read_file(folder, "totals", &totals->text, &totals->length);
-    if (fault == ENOENT) return 0;
+    if (fault != 0) return fault == ENOENT ? 0 : fault;
+    fault = read_text(held.descriptor, 0, (size_t)bytes, &totals->text, &totals->length);
+    povundiri_parts_close(&held);
     return fault == 0 ? parse_totals(totals) : fault;
+}
+
+/* Where the first line begins that is whole in a part of a text; its length if none is. */
+static size_t first_line(const char *text, size_t length, bool is_beginning) {
+    const char *const end = (const char *)memchr(text, '\n', length);
+    if (is_beginning) return 0;
+    return end == NULL ? length : (size_t)(end - text) + 1;
+}
+
+/* Whether the last line is that of totals. A text that ends otherwise is none. */
+static bool has_last_line(const char *text, size_t length) {
+    size_t at = length;
+    if (length == 0 || text[length - 1] != '\n') return false;
+    for (at = length - 1; at > 0 && text[at - 1] != '\n';) at -= 1;
+    return strncmp(text + at, "end,", 4) == 0;
+}
+
+/* The greatest number in the lines that name segments, if it is above *number: a zero is after the text. Whether lines of another kind are
+ * before them, so that none is further before. */
+static bool find_greatest(const char *text, uint64_t *number) {
+    const char *line = text;
+    bool is_named = false, has_others = false;
+    for (; line != NULL && *line != 0; line = strchr(line, '\n'), line = line == NULL ? NULL : line + 1) {
+        if (strncmp(line, "of,", 3) == 0) {
+            const uint64_t named = strtoull(line + 3, NULL, 10);
+            if (named > *number && named < NUMBERS_END) *number = named;
+            is_named = true;
+        } else if (!is_named && strncmp(line, "fold,", 5) != 0 && strncmp(line, "end,", 4) != 0) {
+            has_others = true;
+        }
+    }
+    return has_others;
+}
+
+/* The same, over parts of totals of so many bytes from their end on. What does not end as totals do is looked through as a whole. */
+static int look_from_end(int descriptor, uint64_t bytes, char *part, uint64_t *number) {
+    uint64_t end = bytes;
+    bool is_found = false, is_whole = false;
+    int fault = 0;
+    while (fault == 0 && end > 0 && !is_found) {
+        const uint64_t at = end > PART_BYTES ? end - PART_BYTES : 0;
+        size_t length = 0, first;
+        fault = povundiri_parts_read(descriptor, part, (size_t)(end - at), (off_t)at, &length);
+        if (fault != 0) return fault;
+        part[length] = 0;
+        if (end == bytes) is_whole = has_last_line(part, length);
+        first = first_line(part, length, at == 0);
+        /* A line that is longer than the part names no segment. */
+        is_found = (find_greatest(part + first, number) || first == length) && is_whole;
+        end = at == 0 || first == length ? at : at + first;
+    }
+    return fault;
+}
+
+int povundiri_parts_greatest_named(int folder, uint64_t *number) {
+    struct povundiri_held held;
+    uint64_t bytes;
+    char *part;
+    int fault = open_totals(&held, folder, &bytes);
+    *number = 0;
+    if (fault != 0) return fault == ENOENT ? 0 : fault;
+    part = (char *)malloc(PART_BYTES + 1);
+    fault = part == NULL ? ENOMEM : look_from_end(held.descriptor, bytes, part, number);
+    free(part);
+    povundiri_parts_close(&held);
+    return fault;
 }
 
 bool povundiri_parts_names(const struct povundiri_totals_file *totals, uint64_t number, uint64_t id) {

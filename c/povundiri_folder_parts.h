@@ -30,7 +30,7 @@ struct povundiri_held {
 struct povundiri_listing {
     uint64_t *numbers; /* of segments, ascending */
     size_t count, room;
-    uint64_t last;     /* the greatest number of a segment or of a damaged file; 0: there is none */
+    uint64_t last;     /* the greatest number below NUMBERS_END of a segment or of a damaged file; 0: there is none */
     bool is_marked;    /* as a recording's: `recording` is a whole mark or an empty one */
     bool is_empty;     /* but for marks that have not got their name */
     bool has_any;    /* a segment, a damaged file, or totals */
@@ -125,6 +125,10 @@ int povundiri_parts_totals(int folder, struct povundiri_totals_file *totals);
 void povundiri_parts_free(struct povundiri_totals_file *totals);
 bool povundiri_parts_names(const struct povundiri_totals_file *totals, uint64_t number, uint64_t id);
 
+/* The greatest number below NUMBERS_END that the totals name; 0 if they name none, or there are none. The lines that name segments are at
+ * their end: only that is read. 0, or the system's fault. */
+int povundiri_parts_greatest_named(int folder, uint64_t *number);
+
 /* The sum of the totals, in an empty handle. */
 uint32_t povundiri_parts_begin_sums(const struct povundiri_totals_file *totals, struct povundiri_handle *sums);
 
@@ -172,6 +176,7 @@ struct povundiri_place {
     dev_t device;   /* with the inode, of the folder */
     ino_t inode;
     uint64_t id;       /* of the folder; 0: it is not known */
+    uint64_t last;     /* the greatest number, below NUMBERS_END, that was found or begun there, or named by the totals; 0: none was */
     bool keeps_locks;  /* the mapping of a file there keeps its lock, without a descriptor */
     bool names_spares; /* a spare has a name, since the system has no others, or does not name them later */
 };
@@ -223,7 +228,7 @@ void povundiri_place_leave(struct povundiri_place *place);
  * recording, if nothing was begun in the file of the newest, a segment is made there; and if the header of the newest has a fault, that gets
  * another name. No file is made. POVUNDIRI_DONE also if none is adopted; POVUNDIRI_NO_MEMORY; POVUNDIRI_SYSTEM and *fault: the folder could not
  * be listed. */
-uint32_t povundiri_folder_adopt(const struct povundiri_place *place, struct povundiri_shape shape, bool is_start,
+uint32_t povundiri_folder_adopt(struct povundiri_place *place, struct povundiri_shape shape, bool is_start,
                                 struct povundiri_found *found, int *fault);
 
 /* A spare of this shape. On any but POVUNDIRI_DONE *spare is null; on POVUNDIRI_SYSTEM *fault is the system's. */
@@ -234,7 +239,9 @@ uint32_t povundiri_folder_spare(struct povundiri_place *place, struct povundiri_
  * Looked at after a spare was made, so that two threads do not both take the last of it. So too where the system does not say. */
 bool povundiri_folder_leaves_room(const struct povundiri_place *place, struct povundiri_shape shape);
 
-/* Gives a spare the next number. 0, or the system's fault; then it is a spare still. EAGAIN: another spare may get it. */
+/* Gives a spare the next number: the first free one above those that are known of the folder and those that its totals name, also where a
+ * fold names some meanwhile. The folder is only looked through where none is known, or many have been taken by others. 0, or the system's
+ * fault; then it is a spare still. EAGAIN: another spare may get it. EOVERFLOW: there is no number below NUMBERS_END. */
 int povundiri_folder_commit(struct povundiri_place *place, struct povundiri_owned *spare);
 
 /* Whether the segment has its name still. So too where the system does not say. */

@@ -31,8 +31,26 @@ void povundiri_recording_all_missed(struct povundiri_recording *recording, int f
     pthread_mutex_unlock(&recording->mutex);
 }
 
+/* The greatest number of a segment that is known. */
+static uint64_t last_of(struct povundiri_recording *recording) {
+    uint64_t last;
+    pthread_mutex_lock(&recording->mutex);
+    last = recording->last;
+    pthread_mutex_unlock(&recording->mutex);
+    return last;
+}
+
+/* So many segments are there, but for those that have begun since this number was the last one. */
+static void note_count(struct povundiri_recording *recording, uint64_t segments, uint64_t last) {
+    pthread_mutex_lock(&recording->mutex);
+    recording->counted = segments;
+    recording->counted_at = last;
+    pthread_mutex_unlock(&recording->mutex);
+}
+
 /* Folds, if there are `least` segments or more. */
 static uint32_t fold(struct povundiri_recording *recording, uint64_t least, uint64_t *folded, int *fault) {
+    const uint64_t last = last_of(recording);
     struct povundiri_held folder;
     uint64_t segments = 0;
     uint32_t status = POVUNDIRI_SYSTEM;
@@ -44,6 +62,7 @@ static uint32_t fold(struct povundiri_recording *recording, uint64_t least, uint
         if (least > 0) *fault = povundiri_parts_count(folder.descriptor, &segments);
         if (*fault == 0) status = segments < least ? (uint32_t)POVUNDIRI_DONE : povundiri_parts_fold(folder.descriptor, folded, fault);
         povundiri_parts_close(&folder);
+        if (segments > 0) note_count(recording, segments - (*folded < segments ? *folded : segments), last);
     }
     pthread_setcancelstate(state, NULL);
     return status;
@@ -61,11 +80,25 @@ uint32_t povundiri_recording_fold_if_due(struct povundiri_recording *recording) 
     return fold(recording, recording->options.fold_at, &folded, &fault);
 }
 
+/* Whether the folder may have so many segments: each has a number of its own, so there are no more than were counted last and have begun
+ * since, in all processes. Where so many had stayed, since they are in use or another user's, that is not tried again before `fold_at` have
+ * begun. */
+static bool may_have(struct povundiri_recording *recording, uint64_t many) {
+    uint64_t begun;
+    bool may;
+    pthread_mutex_lock(&recording->mutex);
+    begun = recording->last - recording->counted_at;
+    may = recording->counted < many ? many - recording->counted <= begun : recording->options.fold_at <= begun;
+    if (recording->counted_at == 0) may = true;
+    pthread_mutex_unlock(&recording->mutex);
+    return may;
+}
+
 void povundiri_recording_fold_if_many(struct povundiri_recording *recording) {
     const uint64_t at = recording->options.fold_at;
     uint64_t folded = 0;
     int fault = 0;
-    if (at <= UINT64_MAX / MANY_TIMES) (void)fold(recording, MANY_TIMES * at, &folded, &fault);
+    if (at <= UINT64_MAX / MANY_TIMES && may_have(recording, MANY_TIMES * at)) (void)fold(recording, MANY_TIMES * at, &folded, &fault);
 }
 
 bool povundiri_recording_lacks_room(struct povundiri_recording *recording) {

@@ -48,31 +48,59 @@ bool povundiri_metrics_find(const struct povundiri_metrics *metrics, const char 
     return false;
 }
 
-/* What a new segment of this shape, in the heap, says to a metric with samples in two buckets. */
-static uint32_t try_in(struct povundiri_shape shape, const struct povundiri_metric *metric) {
-    struct povundiri_handle segment = {false, NULL}, recorder = {false, NULL};
-    size_t hist = 0;
-    uint32_t status = povundiri_create(shape, &segment);
-    if (status == POVUNDIRI_DONE) status = povundiri_recorder(&segment, 2, &recorder);
-    if (status == POVUNDIRI_DONE) {
-        status = povundiri_hist(&recorder, metric->name, metric->length, metric->spec, metric->values, metric->count, &hist);
-    }
-    if (status == POVUNDIRI_DONE) status = povundiri_add(&recorder, hist, 0, 1);
-    if (status == POVUNDIRI_DONE) status = povundiri_add(&recorder, hist, INT32_MAX, 1);
-    if (recorder.held) povundiri_drop(&recorder);
-    if (segment.held) povundiri_drop(&segment);
+static void end_trial(struct povundiri_trial *trial) {
+    if (trial->recorder.held) povundiri_drop(&trial->recorder);
+    if (trial->segment.held) povundiri_drop(&trial->segment);
+    trial->words = 0;
+}
+
+/* Begins with a new segment of this shape. */
+static uint32_t begin_trial(struct povundiri_trial *trial, struct povundiri_shape shape) {
+    uint32_t status;
+    end_trial(trial);
+    status = povundiri_create(shape, &trial->segment);
+    if (status == POVUNDIRI_DONE) status = povundiri_recorder(&trial->segment, UINT32_MAX, &trial->recorder);
+    if (status == POVUNDIRI_DONE) trial->words = shape.size;
     return status;
+}
+
+/* What the segment says to a metric with samples in two buckets. */
+static uint32_t try_with(struct povundiri_trial *trial, const struct povundiri_metric *metric) {
+    struct povundiri_handle *const recorder = &trial->recorder;
+    size_t hist = 0;
+    uint32_t status = povundiri_hist(recorder, metric->name, metric->length, metric->spec, metric->values, metric->count, &hist);
+    if (status == POVUNDIRI_DONE) status = povundiri_add(recorder, hist, 0, 1);
+    if (status == POVUNDIRI_DONE) status = povundiri_add(recorder, hist, INT32_MAX, 1);
+    return status;
+}
+
+/* What a new segment of this shape says to it. */
+static uint32_t try_in(struct povundiri_shape shape, const struct povundiri_metric *metric) {
+    struct povundiri_trial trial = {{false, NULL}, {false, NULL}, 0};
+    uint32_t status = begin_trial(&trial, shape);
+    if (status == POVUNDIRI_DONE) status = try_with(&trial, metric);
+    end_trial(&trial);
+    return status;
+}
+
+static struct povundiri_shape page_of(struct povundiri_shape shape) {
+    shape.size = shape.page;
+    return shape;
+}
+
+/* What a segment of one page says to it: what is tried already has others; if it refuses the metric, a new one. */
+static uint32_t try_in_page(struct povundiri_trial *trial, struct povundiri_shape shape, const struct povundiri_metric *metric) {
+    uint32_t status;
+    if (trial->words == shape.page && try_with(trial, metric) == POVUNDIRI_DONE) return POVUNDIRI_DONE;
+    status = begin_trial(trial, page_of(shape));
+    return status == POVUNDIRI_DONE ? try_with(trial, metric) : status;
 }
 
 static bool has_no_room(uint32_t status) { return status == POVUNDIRI_REFUSED_FULL || status == POVUNDIRI_REFUSED_TOO_LARGE; }
 
-/* Whether a name and a spec are such as a histogram may have, and whether it is too large for segments of this shape. Most fit in one page,
- * which takes a small part of the time of a whole segment. */
-static uint32_t judge(struct povundiri_shape shape, const struct povundiri_metric *metric, bool *is_it) {
-    struct povundiri_shape page = shape;
-    uint32_t status;
-    page.size = shape.page;
-    status = try_in(page, metric);
+/* Whether a name and a spec are such as a histogram may have, and whether it is too large for segments of this shape, since one page says
+ * this to it. Most fit in one page, which takes a small part of the time of a whole segment. */
+static uint32_t judge(struct povundiri_shape shape, const struct povundiri_metric *metric, uint32_t status, bool *is_it) {
     if (has_no_room(status)) status = try_in(shape, metric);
     *is_it = has_no_room(status);
     return *is_it ? (uint32_t)POVUNDIRI_DONE : status;
@@ -134,7 +162,7 @@ uint32_t povundiri_metrics_add(struct povundiri_metrics *metrics, struct povundi
     uint32_t status = put(metrics, name, length, spec, values, count);
     if (status != POVUNDIRI_DONE) return status;
     metric = povundiri_metrics_at(metrics, metrics->count);
-    status = judge(shape, metric, &metric->is_too_large);
+    status = judge(shape, metric, try_in_page(&metrics->trial, shape, metric), &metric->is_too_large);
     if (status != POVUNDIRI_DONE) povundiri_metrics_forget(metrics);
     return status;
 }
@@ -147,6 +175,8 @@ void povundiri_metrics_forget(struct povundiri_metrics *metrics) {
     *next = NULL;
 }
 
+void povundiri_metrics_end_trial(struct povundiri_metrics *metrics) { end_trial(&metrics->trial); }
+
 /* What was too large for a smaller shape may fit here. What fits in a smaller one fits in all: so a call that ends late does no harm. */
 void povundiri_metrics_judge_again(struct povundiri_metrics *metrics, struct povundiri_shape shape) {
     const size_t count = povundiri_metrics_count(metrics);
@@ -155,7 +185,7 @@ void povundiri_metrics_judge_again(struct povundiri_metrics *metrics, struct pov
         struct povundiri_metric *const metric = povundiri_metrics_at(metrics, i);
         bool is_still = true;
         if (!is_too_large(metric)) continue;
-        if (judge(shape, metric, &is_still) == POVUNDIRI_DONE && !is_still) {
+        if (judge(shape, metric, try_in(page_of(shape), metric), &is_still) == POVUNDIRI_DONE && !is_still) {
             __atomic_store_n(&metric->is_too_large, false, __ATOMIC_RELAXED);
         }
     }

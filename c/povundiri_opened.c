@@ -208,6 +208,9 @@ void povundiri_recording_end(struct povundiri_recording *recording) {
     if (recording == NULL) return;
     pthread_setcancelstate(PTHREAD_CANCEL_DISABLE, &state);
     spare = end_spares(recording);
+    pthread_mutex_lock(&recording->asking);
+    povundiri_metrics_end_trial(&recording->metrics);
+    pthread_mutex_unlock(&recording->asking);
     for (i = 0; i < recording->shard_count; i += 1) {
         struct shard *const shard = &recording->shards[i];
         pthread_mutex_lock(&shard->mutex);

@@ -12,6 +12,9 @@
 
 #include "povundiri_folder_parts.h"
 
+/* After so many numbers that others have taken, the folder is looked through for the greatest. */
+enum { MOST_TAKEN = 32 };
+
 static struct povundiri_owned *new_owned(void) { return (struct povundiri_owned *)calloc(1, sizeof(struct povundiri_owned)); }
 
 static int folder_of(const struct povundiri_place *place) { return place->is_open ? place->held.descriptor : -1; }
@@ -63,6 +66,10 @@ void povundiri_folder_release(const struct povundiri_place *place, struct povund
     free(owned);
 }
 
+static void note_last(struct povundiri_place *place, uint64_t number) {
+    if (place->last < number && number < NUMBERS_END) place->last = number;
+}
+
 /* Whether nothing was begun in it. */
 static bool is_unmade(const struct povundiri_image *image) {
     size_t i;
@@ -72,19 +79,19 @@ static bool is_unmade(const struct povundiri_image *image) {
     return true;
 }
 
-/* Never over another file. */
+/* Gives a file another name, never over another file. */
+static int rename_to(int folder, const char *from, const char *to) {
+    if (renameat2(folder, from, folder, to, RENAME_NOREPLACE) == 0) return 0;
+    if (errno != EINVAL && errno != ENOSYS) return errno;
+    return linkat(folder, from, folder, to, 0) == 0 && unlinkat(folder, from, 0) == 0 ? 0 : errno;
+}
+
 static void set_aside(const struct povundiri_place *place, const struct povundiri_owned *owned, char *path) {
-    const int folder = folder_of(place);
     char name[LONGEST_NAME];
     int fault;
     povundiri_parts_name_of(name, owned->number, "damaged");
     fault = povundiri_parts_join(path, place->path, name);
-    if (fault == 0 && renameat2(folder, owned->name, folder, name, RENAME_NOREPLACE) != 0) {
-        fault = errno;
-        if (fault == EINVAL || fault == ENOSYS) {
-            fault = linkat(folder, owned->name, folder, name, 0) == 0 && unlinkat(folder, owned->name, 0) == 0 ? 0 : errno;
-        }
-    }
+    if (fault == 0) fault = rename_to(folder_of(place), owned->name, name);
     if (fault != 0) path[0] = 0;
 }
 
@@ -182,14 +189,18 @@ static uint32_t adopt_number(const struct povundiri_place *place, struct povundi
     return POVUNDIRI_DONE;
 }
 
-uint32_t povundiri_folder_adopt(const struct povundiri_place *place, struct povundiri_shape shape, bool is_start,
+uint32_t povundiri_folder_adopt(struct povundiri_place *place, struct povundiri_shape shape, bool is_start,
                                 struct povundiri_found *found, int *fault) {
     struct povundiri_listing listing;
     uint32_t status = POVUNDIRI_DONE;
     size_t i;
     memset(found, 0, sizeof *found);
     *fault = povundiri_parts_list(folder_of(place), &listing);
-    if (*fault != 0) status = POVUNDIRI_SYSTEM;
+    if (*fault != 0) {
+        status = POVUNDIRI_SYSTEM;
+    } else {
+        note_last(place, listing.last);
+    }
     for (i = listing.count; i > 0 && status == POVUNDIRI_DONE && found->newest == NULL; i -= 1) {
         status = adopt_number(place, shape, listing.numbers[i - 1], is_start && i == listing.count, found);
     }
@@ -256,21 +267,13 @@ uint32_t povundiri_folder_spare(struct povundiri_place *place, struct povundiri_
     return status;
 }
 
-/* The number after those of all segments that are there, and of all that the totals name; EOVERFLOW: none is left. */
-static int next_number(int folder, uint64_t *number) {
+/* Looks through the folder for the greatest number. */
+static int look_for_last(struct povundiri_place *place) {
     struct povundiri_listing listing;
-    struct povundiri_totals_file totals;
-    size_t i;
-    int fault = povundiri_parts_list(folder, &listing);
+    const int fault = povundiri_parts_list(folder_of(place), &listing);
     free(listing.numbers);
-    if (fault != 0) return fault;
-    fault = povundiri_parts_totals(folder, &totals);
-    for (i = 0; i < totals.count; i += 1) {
-        if (totals.of[i].number > listing.last && totals.of[i].number < NUMBERS_END) listing.last = totals.of[i].number;
-    }
-    povundiri_parts_free(&totals);
-    *number = listing.last + 1;
-    return fault == 0 && *number >= NUMBERS_END ? EOVERFLOW : fault;
+    if (fault == 0) note_last(place, listing.last);
+    return fault;
 }
 
 /* Gives a spare a name. The next spares have names from the beginning where one without a name gets none: there may be no /proc, or no
@@ -285,21 +288,58 @@ static int link_to(struct povundiri_place *place, const struct povundiri_owned *
     return fault == ENOENT || fault == EACCES ? EAGAIN : fault;
 }
 
-int povundiri_folder_commit(struct povundiri_place *place, struct povundiri_owned *spare) {
+/* Gives a segment the name of this number; a spare has lost its own then. EEXIST if a segment or a damaged file has the number. */
+static int take(struct povundiri_place *place, struct povundiri_owned *owned, uint64_t number) {
+    const int folder = folder_of(place);
     char name[LONGEST_NAME];
-    uint64_t number = 0;
-    int fault = next_number(folder_of(place), &number);
+    struct stat about;
+    int fault;
+    povundiri_parts_name_of(name, number, "damaged");
+    if (fstatat(folder, name, &about, AT_SYMLINK_NOFOLLOW) == 0) return EEXIST;
+    povundiri_parts_name_of(name, number, "seg");
+    fault = owned->number == 0 ? link_to(place, owned, name) : rename_to(folder, owned->name, name);
     if (fault != 0) return fault;
-    do {
-        povundiri_parts_name_of(name, number, "seg");
-        fault = link_to(place, spare, name);
-        if (fault == EEXIST) number += 1;
-    } while (fault == EEXIST && number < NUMBERS_END);
-    if (fault == EEXIST) fault = EOVERFLOW;
+    if (owned->number == 0 && owned->name[0] != 0) unlinkat(folder, owned->name, 0);
+    owned->number = number;
+    memcpy(owned->name, name, sizeof name);
+    return 0;
+}
+
+/* Gives it the next number, if that is free. */
+static int take_next(struct povundiri_place *place, struct povundiri_owned *owned) {
+    const uint64_t number = place->last + 1;
+    const int fault = number < NUMBERS_END ? take(place, owned, number) : EOVERFLOW;
+    if (fault == 0 || fault == EEXIST) place->last = number;
+    return fault;
+}
+
+/* Gives it the first free number above the greatest that is known. */
+static int take_free(struct povundiri_place *place, struct povundiri_owned *owned) {
+    int fault = take_next(place, owned), taken;
+    for (taken = 1; fault == EEXIST; taken += 1) {
+        fault = taken % MOST_TAKEN == 0 ? look_for_last(place) : 0;
+        if (fault == 0) fault = take_next(place, owned);
+    }
+    return fault;
+}
+
+/* Whether the totals name this number, or a greater one, which is known then. Not if the system does not say. */
+static bool is_passed(struct povundiri_place *place, uint64_t number) {
+    uint64_t named = 0;
+    const bool is = povundiri_parts_greatest_named(folder_of(place), &named) == 0 && named >= number;
+    if (is) note_last(place, named);
+    return is;
+}
+
+/* The totals are read before and after: a fold may have removed segments of others meanwhile whose numbers were not known here. */
+int povundiri_folder_commit(struct povundiri_place *place, struct povundiri_owned *spare) {
+    uint64_t named = 0;
+    int fault = place->last == 0 ? look_for_last(place) : 0;
+    if (fault == 0) fault = povundiri_parts_greatest_named(folder_of(place), &named);
+    note_last(place, named);
+    if (fault == 0) fault = take_free(place, spare);
     if (fault != 0) return fault;
-    if (spare->name[0] != 0) unlinkat(folder_of(place), spare->name, 0);
-    spare->number = number;
-    memcpy(spare->name, name, sizeof name);
+    while (is_passed(place, spare->number) && take_free(place, spare) == 0) continue;
     begin(place, spare);
     return 0;
 }

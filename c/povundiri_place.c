@@ -71,7 +71,7 @@ static int open_at_path(struct povundiri_place *place) {
     fault = povundiri_parts_open_folder(&place->held, place->path);
     if (fault != 0) return fault;
     fault = fstat(place->held.descriptor, &about) == 0 ? judge(place, &about) : errno;
-    place->id = 0;
+    place->id = place->last = 0;
     if (fault == 0) fault = povundiri_mark_make(place->held.descriptor, place->mode, 0);
     if (fault != 0) {
         povundiri_parts_close(&place->held);
@@ -155,6 +155,7 @@ int povundiri_place_share(const struct povundiri_place *place, struct povundiri_
     other->device = place->device;
     other->inode = place->inode;
     other->id = place->id;
+    other->last = place->last;
     other->keeps_locks = place->keeps_locks;
     other->names_spares = place->names_spares;
     return fault;

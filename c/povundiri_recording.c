@@ -571,6 +571,7 @@ static uint32_t hist_of(struct povundiri_recording *recording, const char *name,
     uint32_t status;
     if (povundiri_metrics_find(metrics, name, length, spec, values, count, metric)) return ask(recording, *metric);
     status = povundiri_metrics_add(metrics, shape, name, length, spec, values, count);
+    if (state_of(recording) != RECORDS) povundiri_metrics_end_trial(metrics);
     if (status != POVUNDIRI_DONE) return status;
     status = ask(recording, next);
     if (!is_kept(status)) {

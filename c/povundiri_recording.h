@@ -107,7 +107,8 @@ struct povundiri_recording;
  *   bytes     that a segment has at most, from 512 to 8,388,608, until one is too small (SIZE, above); 0: 1 MiB. From 32,768 on, every
  *             histogram of 1,000 buckets fits in one
  *   fold_at   povundiri_recording_export and _maintain fold first if the folder has this many segments or more; a thread that makes a spare
- *             folds afterwards if it has four times as many; 0: 64; UINT64_MAX: none of these folds
+ *             folds afterwards if it has four times as many, and where as many stay, since they are in use, once this many more have
+ *             begun; 0: 64; UINT64_MAX: none of these folds
  *   apart     the least nanoseconds from the beginning of a segment to that of the next one of its shard, and on average from one to the next
  *             of the process: as many as there are shards may begin at once; 0: 1,000,000. The first segment of a shard may be followed at
  *             once, and for a sample one that children have filled. One of the largest size that has no room is not followed before a

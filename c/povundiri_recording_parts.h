@@ -86,6 +86,12 @@ struct povundiri_metric {
     bool is_too_large; /* a segment of the largest size that any shard has, without another one, has no room for it: none is begun for it */
 };
 
+/* A small segment in the heap, in which it is tried what a segment says to metrics. */
+struct povundiri_trial {
+    struct povundiri_handle segment, recorder;
+    uint64_t words;
+};
+
 /* Twice as many in each part as in the one before. */
 enum { METRIC_PARTS = 40, FIRST_METRICS = 64 };
 
@@ -94,6 +100,7 @@ struct povundiri_metrics {
     struct povundiri_metric **parts[METRIC_PARTS];
     size_t count;
     uint64_t most_values; /* of each sparse one; with 2^32 or more there is no bound */
+    struct povundiri_trial trial; /* of who adds */
 };
 
 /* How many there are. */
@@ -121,6 +128,9 @@ uint32_t povundiri_metrics_add(struct povundiri_metrics *metrics, struct povundi
                                struct povundiri_spec spec, const uint32_t *values, size_t count);
 void povundiri_metrics_keep(struct povundiri_metrics *metrics);
 void povundiri_metrics_forget(struct povundiri_metrics *metrics);
+
+/* Frees what was made to try metrics. It is made again for the next one. */
+void povundiri_metrics_end_trial(struct povundiri_metrics *metrics);
 
 /* Says again, of those that were too large, whether they are so for segments of this larger shape. Several threads may call it. */
 void povundiri_metrics_judge_again(struct povundiri_metrics *metrics, struct povundiri_shape shape);

@@ -97,6 +97,10 @@ struct povundiri_recording {
     struct spare spare;
     uint64_t bytes; /* the most of a shard's */
     struct povundiri_shape shape;
+    uint64_t last; /* the greatest number that a shard knows of a folder, which is the one of this device and inode */
+    dev_t last_device;
+    ino_t last_inode;
+    uint64_t counted, counted_at; /* the segments when a thread that made a spare counted them, and `last` then; 0: none has */
     uint64_t apart_at;   /* segments were begun as if each was `apart` from the one before, and the next one is due now */
     uint64_t refusals;   /* how often a segment was refused since one was made */
     uint64_t again_at;   /* when one may be made again then */

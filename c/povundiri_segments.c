@@ -269,6 +269,26 @@ void povundiri_segments_look_for_mark(struct shard *shard) {
     pthread_mutex_unlock(&recording->mutex);
 }
 
+/* A folder has taken the place of the one whose numbers were known; it may have the same inode. */
+static void forget_last(struct povundiri_recording *recording) {
+    pthread_mutex_lock(&recording->mutex);
+    recording->last = recording->counted_at = 0;
+    pthread_mutex_unlock(&recording->mutex);
+}
+
+/* What one shard knows of the numbers in a folder, all know that count there. */
+static void share_last(struct shard *shard) {
+    struct povundiri_recording *const recording = shard->recording;
+    struct povundiri_place *const place = &shard->folder;
+    pthread_mutex_lock(&recording->mutex);
+    if (recording->last_device != place->device || recording->last_inode != place->inode) recording->last = recording->counted_at = 0;
+    if (recording->last < place->last) recording->last = place->last;
+    place->last = recording->last;
+    recording->last_device = place->device;
+    recording->last_inode = place->inode;
+    pthread_mutex_unlock(&recording->mutex);
+}
+
 /* Finds the folder, wherever it is by now. If it was removed, and is another one, nothing that was in it is there. */
 static int look_for_folder(struct shard *shard) {
     struct povundiri_owned *old;
@@ -278,8 +298,18 @@ static int look_for_folder(struct shard *shard) {
     fault = povundiri_place_look(&shard->folder, &is_another);
     povundiri_segments_look_for_mark(shard);
     if (!is_another) return fault;
+    forget_last(shard->recording);
     if (shard->current != NULL) shard->current->is_gone = true;
     for (old = shard->old; old != NULL; old = old->next) old->is_gone = true;
+    return fault;
+}
+
+/* Gives a spare the next number of all shards. */
+static int commit(struct shard *shard, struct povundiri_owned *spare) {
+    int fault;
+    share_last(shard);
+    fault = povundiri_folder_commit(&shard->folder, spare);
+    share_last(shard);
     return fault;
 }
 
@@ -289,7 +319,7 @@ static int begin_once(struct shard *shard, struct povundiri_owned *next) {
     int fault = look_for_folder(shard);
     if (fault == 0 && next == NULL) next = take_spare(shard);
     if (fault == 0 && next == NULL) next = new_next(shard, &fault);
-    if (fault == 0) fault = povundiri_folder_commit(&shard->folder, next);
+    if (fault == 0) fault = commit(shard, next);
     if (fault != 0) {
         povundiri_folder_release(&shard->folder, next);
         return fault;

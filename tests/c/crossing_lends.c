@@ -53,8 +53,8 @@ static void is_whole(struct povundiri_handle *segment) {
     HOLDS(units == UINT32_MAX && outstanding == 0);
 }
 
-/* The first call lends a recorder of the other segment; it is the one that is stopped. The second lends or joins one to the other segment: a
- * recorder of the first segment if both cross, else one of the other segment itself, and then its call is done, or returns BUSY. */
+/* The first call lends a recorder of the other segment; it is the one that is stopped. The second lends or joins one to the other segment:
+ * a recorder of the first segment if both cross, else one of the other segment itself, and then its call is done, or returns BUSY. */
 static void cross(bool both, bool joins) {
     const struct povundiri_shape shape = {1024, 256, 7, 0, 2};
     struct povundiri_handle here = {0}, there = {0}, one = {0}, other = {0};

@@ -1,7 +1,7 @@
-/* Two threads that make a call each, in round after round. In the first rounds both begin at the same moment; whether the calls meet then is
- * a matter of the machine. In the rounds after these the other thread makes its call again and again, is stopped by a signal somewhere amid
- * it, and goes on when the test's own call has been made: so they meet also on one processor that has other work, and there are as many of
- * these rounds as it takes, for minutes. */
+/* Two threads that make a call each, in round after round. In the first rounds both begin at the same moment; whether the calls meet then
+ * is a matter of the machine. In the rounds after these the other thread makes its call again and again, is stopped by a signal somewhere
+ * amid it, and goes on when the test's own call has been made: so they meet also on one processor that has other work, and there are as
+ * many of these rounds as it takes, for minutes. */
 #ifndef MEETING_H
 #define MEETING_H
 
@@ -37,7 +37,8 @@ static void meeting_nap(void) {
     nanosleep(&nap, NULL);
 }
 
-/* Waits until the other thread has arrived too, each twice a round. At first it keeps its processor, so that they go on at the same moment. */
+/* Waits until the other thread has arrived too, each twice a round. At first it keeps its processor, so that they go on at the same moment.
+ */
 static void meeting_arrive(struct meeting *meeting) {
     const unsigned all = (__atomic_fetch_add(&meeting->arrivals, 1, __ATOMIC_SEQ_CST) | 1) + 1;
     int spins = 0;

@@ -404,7 +404,9 @@ void read_beside(const std::atomic<long long>& counted, const std::atomic<bool>&
     } while (!ends);
 }
 
-void fold_beside(Recording& recording, const std::atomic<bool>& ends, std::atomic<int>& folded) {
+// The first fold waits for a reading, for a minute at most: where processors are busy, folds may else end amid each of them.
+void fold_beside(Recording& recording, const std::atomic<bool>& ends, const Found& found, std::atomic<int>& folded) {
+    for (int i = 0; i < 60'000 && !ends && found.read == 0; ++i) std::this_thread::sleep_for(std::chrono::milliseconds(1));
     do {
         std::uint64_t more = 0;
         HOLDS(!recording.try_fold(more));
@@ -440,7 +442,7 @@ void beside() {
     Found found;
     std::vector<std::thread> threads, others;
     others.emplace_back([&] { read_beside(counted, ends, found); });
-    others.emplace_back([&] { fold_beside(recording, ends, folded); });
+    others.emplace_back([&] { fold_beside(recording, ends, found, folded); });
     for (int i = 0; i < kThreads; ++i) threads.emplace_back([&, i] { count_in_lives(i, sparse, counted); });
     for (std::thread& thread : threads) thread.join();
     ends = true;

@@ -1,11 +1,13 @@
-// The folders of recordings: whose they are, what a start removes and continues there, which descriptors a recording keeps, and folds with
-// few: 'recorded_folders FOLDER'. Each group works in a folder of its own below that. It is linked with -Wl,--wrap=open and so on.
+// The folders of recordings: whose they are, what a start removes and continues there, which number the next segment gets, which
+// descriptors a recording keeps, and folds with few: 'recorded_folders FOLDER'. Each group works in a folder of its own below that. It is
+// linked with -Wl,--wrap=open and so on.
 #include <fcntl.h>
 #include <sched.h>
 #include <sys/file.h>
 #include <sys/mount.h>
 #include <sys/resource.h>
 
+#include <algorithm>
 #include <cerrno>
 #include <csignal>
 #include <cstdarg>
@@ -33,16 +35,25 @@ int opened_until_fault = -1;
 enum class Unnamed { Named, NotMade, NotNamed };
 Unnamed unnamed = Unnamed::Named;
 
+// A folder that is folded, once, just before a segment gets its name; and whether the system can rename a file over none.
+std::string folded_amid;
+bool renames = true;
+
+// How often a folder was listed, and how many bytes were read of files at a place.
+int listings = 0;
+std::uint64_t bytes_read = 0;
+
 // A folder in which another process begins to record whenever this one is about to lock a spare, which takes long.
 std::string opened_between;
 
-void fold_between() {
-    const std::string path = std::exchange(folded_between, "");
+std::uint64_t fold_of(const std::string& path) {
     std::uint64_t folded = 0;
     int fault = 0;
     ANSWERS(DONE, povundiri_folder_fold(path.c_str(), &folded, &fault));
-    HOLDS(folded == 1);
+    return folded;
 }
+
+void fold_between() { HOLDS(fold_of(std::exchange(folded_between, "")) == 1); }
 
 void open_between() {
     const std::string path = std::exchange(opened_between, "");
@@ -73,9 +84,24 @@ extern "C" int __wrap_flock(int descriptor, int how) {
 
 extern "C" int __real_linkat(int from_folder, const char* from, int to_folder, const char* to, int flags);
 extern "C" int __wrap_linkat(int from_folder, const char* from, int to_folder, const char* to, int flags) {
+    if (!folded_amid.empty() && std::strstr(to, ".seg") != nullptr) HOLDS(fold_of(std::exchange(folded_amid, "")) > 0);
     if (unnamed == Unnamed::Named || std::strncmp(from, "/proc/", 6) != 0) return __real_linkat(from_folder, from, to_folder, to, flags);
     errno = ENOENT;
     return -1;
+}
+
+extern "C" int __real_renameat2(int from_folder, const char* from, int to_folder, const char* to, unsigned flags);
+extern "C" int __wrap_renameat2(int from_folder, const char* from, int to_folder, const char* to, unsigned flags) {
+    if (renames) return __real_renameat2(from_folder, from, to_folder, to, flags);
+    errno = EINVAL;
+    return -1;
+}
+
+extern "C" ssize_t __real_pread(int descriptor, void* at, std::size_t bytes, off_t from);
+extern "C" ssize_t __wrap_pread(int descriptor, void* at, std::size_t bytes, off_t from) {
+    const ssize_t got = __real_pread(descriptor, at, bytes, from);
+    if (got > 0) bytes_read += static_cast<std::uint64_t>(got);
+    return got;
 }
 
 extern "C" int __real_openat(int in, const char* path, int flags, ...);
@@ -88,6 +114,7 @@ extern "C" int __wrap_openat(int in, const char* path, int flags, ...) {
         errno = EOPNOTSUPP;
         return -1;
     }
+    listings += std::strcmp(path, ".") == 0 && (flags & O_TMPFILE) != O_TMPFILE;
     const bool is_segment = std::string(path).find(".seg") != std::string::npos, is_recorded = (flags & O_ACCMODE) == O_RDWR;
     if (is_segment && is_recorded && !folded_between.empty()) fold_between();
     const int descriptor = __real_openat(in, path, flags, mode);
@@ -446,6 +473,183 @@ void linked() {
     HOLDS(finals.fold(1024, folded) == 0 && folded == 2 && finals.stand(0) && bytes_of(kept) == 8);
 }
 
+// Most units of a segment: the next such sample takes the next one.
+constexpr std::uint32_t kMost = 4'200'000'000;
+
+// The names of segments in a folder, by their order, and one by its number.
+std::vector<std::string> segments_of(const std::string& path) {
+    std::vector<std::string> found;
+    for (const auto& entry : std::filesystem::directory_iterator(path)) {
+        if (entry.path().extension() == ".seg") found.push_back(entry.path().filename());
+    }
+    std::sort(found.begin(), found.end());
+    return found;
+}
+
+std::string name_of(int number) { return std::filesystem::path(segment("", number)).filename(); }
+
+// A folder is listed as a recording begins, and not as it begins segments; and as it may have four times `fold_at` of them.
+void remembered() {
+    const std::string path = folder("remembered");
+    Recording recording;
+    HOLDS(opens(path, recording, small()));
+    const Metric metric = metric_of(recording, "b");
+    HOLDS(metric.add(1, kMost) && metric.add(1, kMost));
+    listings = 0;
+    for (int i = 2; i < 250; ++i) HOLDS(metric.add(1, kMost));
+    HOLDS(listings == 0 && segments_in(path) == 250 && segments_of(path).back() == name_of(250));
+    for (int i = 250; i < 300; ++i) HOLDS(metric.add(1, kMost));
+    HOLDS(segments_in(path) < 60 && recording.missed() == 0 && units_in(recording.report(), "b") == 300LL * kMost);
+    HOLDS(segments_of(path).back() == name_of(300));
+}
+
+// Others have begun many segments since, or set one aside: the next number is the first free one above. The folder is listed once for that.
+void taken_numbers() {
+    const std::string path = folder("numbers");
+    Recording recording, other;
+    HOLDS(opens(path, recording, small()) && opens(path, other, small()));
+    const Metric metric = metric_of(recording, "b"), others = metric_of(other, "b");
+    for (int i = 0; i < 50; ++i) HOLDS(others.add(1, kMost));
+    HOLDS(metric.add(1, kMost) && segments_of(path).back() == name_of(51));
+    listings = 0;
+    HOLDS(metric.add(1, kMost) && listings == 1 && segments_of(path).back() == name_of(52));
+    HOLDS(others.add(1, kMost) && listings == 1 && segments_of(path).back() == name_of(53));
+    HOLDS(is_made(path + "/0000000054.damaged", "damaged"));
+    HOLDS(metric.add(1, kMost) && segments_of(path).back() == name_of(55));
+    HOLDS(recording.missed() + other.missed() == 0 && units_in(recording.report(), "b") == 54LL * kMost);
+}
+
+// Numbers of more than 18 digits are none. With that of 18 nines there is no next one: no segment is begun, and that is said.
+void greatest_numbers() {
+    const std::string path = folder("greatest"), last = path + "/999999999999999999.damaged";
+    const std::vector<std::string> others = {"1000000000000000000.damaged", "18446744073709551615.damaged", "18446744073709551616.seg"};
+    Recording recording;
+    HOLDS(opens(path, recording, small()) && metric_of(recording, "b").add(1, kMost));
+    recording.end();
+    for (const std::string& name : others) HOLDS(is_made(path + "/" + name, "stray"));
+    RecordingOptions options = small();
+    options.bytes = 32'768;
+    HOLDS(opens(path, recording, options) && recording.began().number == 2);
+    HOLDS(metric_of(recording, "b").add(1, kMost) && metric_of(recording, "b").add(1, kMost) && bytes_of(segment(path, 3)) > 0);
+    for (const std::string& name : others) HOLDS(std::remove((path + "/" + name).c_str()) == 0);
+    HOLDS(recording.missed() == 0 && units_in(recording.report(), "b") == 3LL * kMost);
+    recording.end();
+    options.bytes = 65'536;
+    HOLDS(is_made(last, "damaged") && opens(path, recording, options));
+    HOLDS(recording.began().number == 0 && recording.began().fault == EOVERFLOW && !metric_of(recording, "b").add(1, 5));
+    HOLDS(recording.missed(Missed::NoSpace) == 5 && recording.missed() == 5 && segments_of(path).size() == 3);
+}
+
+// Segments of others, which this process did not know, are folded just before its next one gets its name: that gets no number that a
+// removed segment had.
+void passed_by(int segments, bool can_rename) {
+    const std::string path = folder(("passed-" + std::to_string(segments) + (can_rename ? "" : "-linked")).c_str());
+    Recording idle, other;
+    HOLDS(opens(path, idle, small()) && opens(path, other, small()));
+    const Metric metric = metric_of(idle, "b"), others = metric_of(other, "b");
+    HOLDS(metric.add(1, kMost));
+    for (int i = 0; i < segments; ++i) HOLDS(others.add(1, kMost));
+    other.end();
+    renames = can_rename;
+    folded_amid = path;
+    HOLDS(metric.add(1, kMost) && folded_amid.empty());
+    renames = true;
+    const std::string next = name_of(segments + 2);
+    HOLDS(segments_of(path) == (std::vector<std::string>{name_of(1), next}) && files_named(segment(path, segments + 2)) == 1);
+    HOLDS(metric.add(1, kMost) && segments_of(path).back() == name_of(segments + 3) && fold_of(path) == 2);
+    HOLDS(idle.missed() == 0 && units_in(idle.report(), "b") == (segments + 3LL) * kMost);
+}
+
+void passed() {
+    for (const bool can_rename : {true, false}) {
+        for (const int segments : {1, 2, 10}) passed_by(segments, can_rename);
+    }
+}
+
+// The number of the first segment that is begun in a new folder with these totals.
+std::uint64_t begun_after(const std::string& totals, off_t zeros = 0) {
+    static int folders = 0;
+    const std::string path = folder(("totals" + std::to_string(++folders)).c_str()), file = path + "/totals";
+    Recording recording;
+    HOLDS(mkdir(path.c_str(), 0700) == 0 && is_made(file, totals.c_str()));
+    HOLDS(zeros == 0 || truncate(file.c_str(), zeros) == 0);
+    bytes_read = 0;
+    HOLDS(opens(path, recording));
+    return recording.began().number;
+}
+
+std::string repeated(const std::string& text, int times) {
+    std::string all;
+    for (int i = 0; i < times; ++i) all += text;
+    return all;
+}
+
+// Lines `of` of number 1, so many bytes of them together: seven or more.
+std::string of_lines(std::size_t bytes) {
+    const std::string line = "of,1,2\n";
+    std::string lines = repeated(line, static_cast<int>(bytes / line.size() - 1));
+    const std::string last = "of,1," + std::string(bytes - lines.size() - 6, '2');
+    return lines + last + "\n";
+}
+
+// The next number is above those of all lines `of` of totals, which are read from their end on, wherever the greatest is.
+void named_in_totals() {
+    const std::string begins = "totals,1\nimages,3\n", ends = "fold,2\nend,9\n", greatest = "of,77,18446744073709551615\n";
+    HOLDS(begun_after(begins + "of,7,1\nof,9,2\nof,3,4\n" + ends) == 10 && begun_after(begins + "of,5,1\nend,4\n") == 6);
+    HOLDS(begun_after(begins + ends) == 1 && begun_after(begins + "end,3\n") == 1);
+    HOLDS(begun_after(begins + "of,999999999999999997,1\n" + ends) == 999'999'999'999'999'998);
+    HOLDS(begun_after(begins + "of,1000000000000000000,1\nof,18446744073709551615,2\nof,6,3\n" + ends) == 7);
+    // More lines than are read at once, which are 16,384 bytes, with the greatest anywhere about the place where they are parted.
+    for (std::size_t within = 0; within <= greatest.size() + 2; ++within) {
+        const std::string after = of_lines(16'384 + 1 - within - ends.size());
+        HOLDS(begun_after(begins + of_lines(700) + greatest + after + ends) == 78);
+    }
+    HOLDS(begun_after(begins + greatest + of_lines(100'000) + ends) == 78);
+    const std::string histogram = "hist,1,h,custom," + repeated("123456,", 10'000) + "1\n";
+    HOLDS(begun_after(begins + histogram + greatest + ends) == 78);
+    HOLDS(begun_after(begins + histogram + greatest + of_lines(16'384 - ends.size()) + ends) == 78);
+    HOLDS(begun_after(begins + histogram + ends) == 1);
+    // Of four million bytes little is read.
+    const std::string large = begins + repeated(histogram, 60);
+    HOLDS(begun_after(large + greatest + ends) == 78 && bytes_read < 100'000);
+    HOLDS(begun_after(large + ends) == 1 && bytes_read < 100'000);
+}
+
+// What is no totals any more is looked through: those that are cut off, have something behind them, or zeros, or nothing.
+void no_totals() {
+    const std::string begins = "totals,1\nimages,3\n", named = begins + "of,50,1\nof,7,2\n", ends = "fold,2\nend,9\n";
+    HOLDS(begun_after(named) == 51 && begun_after(named + "of,6") == 51 && begun_after(named + ends + "x") == 51);
+    HOLDS(begun_after(named + repeated("0123456789abcdef\n", 2000)) == 51 && begun_after(named + repeated("x", 40'000)) == 51);
+    HOLDS(begun_after(named + ends + repeated("key,1,1\n", 5000)) == 51 && begun_after("") == 1 && begun_after("of,3,1\n") == 4);
+    HOLDS(begun_after("", off_t{1} << 24) == 1 && begun_after("x", off_t{1} << 24) == 1);
+}
+
+// What is remembered is of one folder. One that is emptied stays the same one; one that is made anew begins with 1; one into which an older
+// copy of itself is put goes on above what it had.
+void which_folder() {
+    namespace files = std::filesystem;
+    const std::string path = folder("which"), copy = folder("which-copy");
+    const auto empty = [&] {
+        for (const auto& entry : files::directory_iterator(path)) files::remove(entry.path());
+    };
+    Recording recording;
+    HOLDS(opens(path, recording, small()));
+    const Metric metric = metric_of(recording, "b");
+    for (int i = 0; i < 3; ++i) HOLDS(metric.add(1, kMost));
+    recording.leave();
+    files::copy(path, copy);
+    for (int i = 0; i < 3; ++i) HOLDS(metric.add(1, kMost));
+    empty();
+    HOLDS(metric.add(1, kMost) && segments_of(path) == (std::vector<std::string>{name_of(7)}));
+    empty();
+    files::copy(copy, path, files::copy_options::overwrite_existing);
+    HOLDS(metric.add(1, kMost) && segments_of(path).back() == name_of(8) && segments_in(path) == 4);
+    HOLDS(units_in(recording.report(), "b") == 4LL * kMost);
+    files::remove_all(path);
+    HOLDS(metric.add(1, kMost) && segments_of(path) == (std::vector<std::string>{name_of(1)}));
+    HOLDS(metric.add(1, kMost) && segments_of(path).back() == name_of(2) && units_in(recording.report(), "b") == 2LL * kMost);
+}
+
 int run() {
     int failed = group("what is no recording's folder", marks);
     failed += group("spares", spares);
@@ -456,6 +660,13 @@ int run() {
     failed += group("new totals that are another file", linked);
     failed += group("few descriptors", few_descriptors);
     failed += group("no descriptor for a moment", no_descriptor);
+    failed += group("what a roll remembers", remembered);
+    failed += group("numbers that others have taken", taken_numbers);
+    failed += group("the greatest numbers", greatest_numbers);
+    failed += group("a fold amid a roll", passed);
+    failed += group("numbers that totals name", named_in_totals);
+    failed += group("what is no totals", no_totals);
+    failed += group("which folder is remembered", which_folder);
     failed += group("idle threads in old segments", few_open);
     failed += mounts_overlay() ? group("the same on overlayfs", overlaid) : left_out("the same on overlayfs", std::strerror(errno));
     return failed;

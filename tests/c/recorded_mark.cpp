@@ -454,7 +454,7 @@ void beside_a_fold() {
     HOLDS(lock >= 0 && flock(lock, LOCK_EX | LOCK_NB) == 0);
     const auto before = std::chrono::steady_clock::now();
     Missing missing(path);
-    HOLDS(std::chrono::steady_clock::now() - before < std::chrono::seconds(10));
+    HOLDS(std::chrono::steady_clock::now() - before < std::chrono::seconds(60));
     HOLDS(missing.misses(3) && told(missing.recording) == 3 && bytes_of(mark_in(path)) == 0 && missing.recording.began().id == 0);
     HOLDS(close(lock) == 0 && told(missing.recording) == 3 && marked(path) == 3);
     // A mark that is cut meanwhile is left after a look, so no step on its page ends the process.

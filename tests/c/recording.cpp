@@ -32,6 +32,8 @@
 namespace {
 
 constexpr std::size_t kThreads = 8, kMetrics = 5;
+// How many milliseconds longer a run lasts at most until a reader has read once.
+constexpr int kMostWaits = 120'000;
 
 struct Cell {
     std::atomic<std::uint64_t> begun, ended;
@@ -189,6 +191,8 @@ void run(const Words& words) {
         while (true) pause();
     }
     std::this_thread::sleep_for(std::chrono::milliseconds(1000 * words.seconds));
+    const bool reads = words.mode.find('r') != std::string::npos;
+    for (int more = 0; reads && readings == 0 && more < kMostWaits; ++more) std::this_thread::sleep_for(std::chrono::milliseconds(1));
     ends = true;
     for (std::thread& thread : threads) thread.join();
     std::printf("segment %llu, read %llu, missed", static_cast<unsigned long long>(recording.began().number), readings.load());

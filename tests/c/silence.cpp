@@ -1,5 +1,6 @@
 // What recordings have lost or hidden without a word, as services do it: 'silence FOLDER'. Each group is such a use, with the usual options
-// where that is how services do it, in a folder of its own below that.
+// where that is how services do it, in a folder of its own below that. It is linked with -Wl,--wrap=readdir and so on.
+#include <dirent.h>
 #include <fcntl.h>
 #include <grp.h>
 #include <sched.h>
@@ -18,6 +19,50 @@
 #include <vector>
 
 #include "recorded.hpp"
+
+namespace {
+
+// How many names of folders were read, how many bytes of files at a place, and how many bytes were asked of the heap.
+std::atomic<std::uint64_t> names_read{0}, bytes_read{0}, bytes_asked{0};
+
+}  // namespace
+
+extern "C" {
+dirent* __real_readdir(DIR* names);
+dirent* __wrap_readdir(DIR* names) {
+    dirent* const entry = __real_readdir(names);
+    names_read += entry != nullptr;
+    return entry;
+}
+
+ssize_t __real_pread(int descriptor, void* at, std::size_t bytes, off_t from);
+ssize_t __wrap_pread(int descriptor, void* at, std::size_t bytes, off_t from) {
+    const ssize_t got = __real_pread(descriptor, at, bytes, from);
+    if (got > 0) bytes_read += static_cast<std::uint64_t>(got);
+    return got;
+}
+
+void* __real_malloc(std::size_t size);
+void* __wrap_malloc(std::size_t size) {
+    bytes_asked += size;
+    return __real_malloc(size);
+}
+void* __real_calloc(std::size_t count, std::size_t size);
+void* __wrap_calloc(std::size_t count, std::size_t size) {
+    bytes_asked += count * size;
+    return __real_calloc(count, size);
+}
+void* __real_realloc(void* at, std::size_t size);
+void* __wrap_realloc(void* at, std::size_t size) {
+    bytes_asked += size;
+    return __real_realloc(at, size);
+}
+int __real_posix_memalign(void** at, std::size_t align, std::size_t size);
+int __wrap_posix_memalign(void** at, std::size_t align, std::size_t size) {
+    bytes_asked += size;
+    return __real_posix_memalign(at, align, size);
+}
+}
 
 namespace {
 
@@ -335,6 +380,41 @@ void drop_privileges() {
     }));
 }
 
+// A service asks for a thousand metrics. Each is tried in a page that is kept, which has 32,768 bytes, and not in one of its own.
+void registering() {
+    Recording recording;
+    HOLDS(opens(folder("registering"), recording));
+    const Metric first = recording.linear("first", 1, 1000, 10);
+    const std::uint64_t before = bytes_asked;
+    for (int i = 0; i < 1000; ++i) HOLDS(recording.linear("metric_" + std::to_string(i), 1, 1000, 10).status() == Status::Done);
+    HOLDS(bytes_asked - before < 1000 * 4096 && first.add(5) && recording.missed() == 0);
+}
+
+// A folder has many segments, and totals of two megabytes. What a segment begins with does not become more for that: no name of the folder
+// is read, and little of the totals.
+void generations() {
+    constexpr std::uint32_t kMost = 4'200'000'000;
+    const std::string path = folder("generations");
+    RecordingOptions options = small();
+    options.bytes = 65'536;
+    Recording recording;
+    HOLDS(opens(path, recording, options));
+    // Some two thousand names of a hundred buckets.
+    for (int i = 0; i < 20; ++i) many(recording, ("m" + std::to_string(i) + "_").c_str(), 100);
+    HOLDS(recording.fold() > 0);
+    options.fold_at = UINT64_MAX;
+    recording.end();
+    Recording again;
+    HOLDS(opens(path, again, options));
+    const Metric latency = again.linear("latency", 1, 1000, 10);
+    for (int i = 0; i < 500; ++i) HOLDS(latency.add(1, kMost));
+    const long totals = bytes_of(path + "/totals");
+    const std::uint64_t names = names_read, bytes = bytes_read;
+    for (int i = 0; i < 20; ++i) HOLDS(latency.add(1, kMost));
+    HOLDS(totals > 1'000'000 && segments_in(path) >= 520 && again.missed() == 0);
+    HOLDS(names_read - names <= segments_in(path) + 100 && bytes_read - bytes < 20 * 100'000);
+}
+
 int run() {
     const auto of_root = [](const char* name, void (*checks)()) { return group_of_root(name, checks, "only root can do that"); };
     int failed = group("prefork", prefork);
@@ -349,6 +429,8 @@ int run() {
     failed += of_root("full_disk_fold", full_disk_fold);
     failed += group("cardinality", cardinality);
     failed += group("flooded", flooded);
+    failed += group("registering", registering);
+    failed += group("generations, roll1", generations);
     failed += of_root("trust_folder", trust_folder);
     failed += of_root("drop_privileges", drop_privileges);
     return failed;

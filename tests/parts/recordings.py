@@ -48,15 +48,17 @@ OF_CHILDREN = (
 # The programs that check something, and which calls to the system or to the heap each of them intercepts.
 CHECKED = {
     "recorded_times": (), "recorded_names": (), "recorded_families": ("malloc",), "recorded_options": (),
-    "recorded": ("clock_gettime", "posix_fallocate"), "recorded_folders": ("openat", "flock", "linkat"),
+    "recorded": ("clock_gettime", "posix_fallocate"), "recorded_folders": ("openat", "flock", "linkat", "renameat2", "pread"),
     "recorded_mark": ("openat", "write", "fsync", "linkat", "renameat", "fchmodat", "unlinkat", "mmap"),
     "recorded_removed": (), "recorded_children": OF_CHILDREN, "recorded_refusals": OF_CHILDREN, "recorded_users": (),
-    "recorded_room": ("posix_fallocate",), "recorded_values": ("posix_fallocate",), "silence": (),
+    "recorded_room": ("posix_fallocate",), "recorded_values": ("posix_fallocate",),
+    "silence": ("readdir", "pread", "malloc", "calloc", "realloc", "posix_memalign"),
     "recorded_shards": ("posix_fallocate", "clock_gettime"),
+    "recorded_each_shard": ("openat", "linkat", "renameat2", "malloc", "calloc", "realloc", "posix_memalign"),
 }
 THREADS = "-fsanitize=thread"
 # The programs of which the groups with threads are run under the thread sanitizer.
-THREADED = ("recorded", "recorded_refusals", "recorded_families", "recorded_shards")
+THREADED = ("recorded", "recorded_refusals", "recorded_families", "recorded_shards", "recorded_each_shard")
 # The reasons for what is missed, in the order of the library; what a run may miss that nothing disturbs.
 REASONS = (
     "too_large", "other_spec", "no_space", "rolling", "forked", "ended", "no_memory", "removed", "child", "values",

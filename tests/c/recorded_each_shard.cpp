@@ -207,7 +207,9 @@ void two_at_once() {
         std::thread folds([&] {
             while (!ends) {
                 std::uint64_t folded = 0;
-                HOLDS(!one.try_fold(folded));
+                const std::error_code fault = one.try_fold(folded);
+                // A thread that makes a spare may fold.
+                HOLDS(!fault || fault == Status::Busy);
                 usleep(500);
             }
         });
@@ -328,9 +330,9 @@ void due() {
     HOLDS(units_in(full.report(), "b") == 80LL * kMost + 30);
 }
 
-// What a segment without another histogram returns to a name and a spec: of the shape that segments of small() have.
+// What a segment of 8,192 bytes without another histogram returns to a name and a spec.
 Status alone(const std::string& name, povundiri_spec spec, const std::vector<std::uint32_t>& values) {
-    povundiri::Segment segment(povundiri::shape_for(16'384, 1));
+    povundiri::Segment segment(povundiri::shape_for(8'192, 1));
     povundiri::Recorder recorder = segment.recorder();
     povundiri::Hist hist;
     Status status = recorder.try_hist(name, spec, values, hist);
@@ -382,14 +384,16 @@ std::vector<Asked> asked_for() {
 // what is kept to try metrics is new, has the name with another spec, or is full.
 void refused_alike() {
     std::map<Status, int> met;
+    RecordingOptions options = small();
+    options.bytes = 8'192;
     Recording first, full;
-    HOLDS(opens(folder("alike"), first, small()) && opens(folder("alike-full"), full, small()));
+    HOLDS(opens(folder("alike"), first, options) && opens(folder("alike-full"), full, options));
     const std::vector<Asked> asked = asked_for();
     for (std::size_t i = 0; i < asked.size(); ++i) {
         const Asked& each = asked[i];
         const Status wanted = alone(each.name, each.spec, each.values);
         Recording fresh;
-        HOLDS(opens(folder_of("alike-fresh", i), fresh, small()));
+        HOLDS(opens(folder_of("alike-fresh", i), fresh, options));
         for (Recording* const recording : {&fresh, &first, &full, &full}) {
             Metric metric;
             // Of two specs of a name the present segment has the first one. The first metrics of all are in it.
@@ -473,12 +477,22 @@ void many_metrics() {
         if (i % 100 == 0) RETURNS(RefusedTooLarge, recording.try_hist("large" + std::to_string(i), kLarge, {}, large));
         if (i % 50 == 0) RETURNS(RefusedBadName, recording.try_hist("m,", kLinear, {}, metric));
     }
-    HOLDS(metric.add(5) && !(large.add(1) && large.add(900'000)));
-    recording.end();
-    // Also of one that has ended: there is nothing to count in, and the same is refused.
-    DONE(recording.try_hist("after", kLinear, {}, metric));
-    RETURNS(RefusedBadName, recording.try_hist("after,", kLinear, {}, metric));
-    RETURNS(RefusedTooLarge, recording.try_hist("large after", kLarge, {}, metric));
+    HOLDS(!(large.add(1) && large.add(900'000)) && metric.add(5));
+}
+
+// Of a recording that has ended the same is taken and refused, though there is nothing to count in.
+void after_the_end() {
+    povundiri_recording* recording = nullptr;
+    std::size_t number = 9;
+    int fault = 0;
+    ANSWERS(DONE, povundiri_recording_open(folder("ended").c_str(), nullptr, &recording, &fault));
+    povundiri_recording_end(recording);
+    for (std::size_t i = 0; i < 100; ++i) {
+        HOLDS(told_of(recording, static_cast<int>(i), kLinear).status == POVUNDIRI_DONE);
+        ANSWERS(REFUSED_BAD_NAME, povundiri_recording_hist(recording, "a,", 2, kLinear, nullptr, 0, &number));
+        ANSWERS(BAD_KIND, povundiri_recording_hist(recording, "a", 1, {99, 0, 0, 0}, nullptr, 0, &number));
+    }
+    HOLDS(number == 9 && povundiri_recording_missed(recording, POVUNDIRI_MISSED_ENDED) == 100);
 }
 
 // Each allocation of asking is refused in turn, when what is kept to try metrics is not there, has room and is full: that is said, and the
@@ -520,6 +534,7 @@ int run(bool only_threads) {
     failed += group("children of fork", forks);
     failed += group("what is refused", refused_alike);
     failed += group("many metrics", many_metrics);
+    failed += group("after the end", after_the_end);
     failed += group("no memory for a metric", no_memory);
     return failed;
 }

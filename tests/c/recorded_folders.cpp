@@ -642,7 +642,7 @@ void which_folder() {
     empty();
     HOLDS(metric.add(1, kMost) && segments_of(path) == (std::vector<std::string>{name_of(7)}));
     empty();
-    files::copy(copy, path, files::copy_options::overwrite_existing);
+    files::copy(copy, path);
     HOLDS(metric.add(1, kMost) && segments_of(path).back() == name_of(8) && segments_in(path) == 4);
     HOLDS(units_in(recording.report(), "b") == 4LL * kMost);
     files::remove_all(path);

@@ -101,7 +101,8 @@ def histogram_in(lines: Lines, fields: tuple[bytes, ...]) -> tuple[Histogram, bo
         keys.append(lines.number_in(key[0], SIGNED_32))
         units.append(lines.number_in(key[1]))
         marks.append(lines.number_in(key[2]))
-    found = Histogram(name.decode(), spec, sum(units), sums, counts[0], counts[1], counts[2], lambda: (keys, units, marks))
+    shown = name.decode()
+    found = Histogram(shown, spec, sum(units), sums, counts[0], counts[1], counts[2], lambda: (keys, units, marks))
     return found, are_whole(spec, keys) and found.units in OF_64_BITS
 
 

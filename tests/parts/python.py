@@ -200,7 +200,8 @@ def summed(package: Package, seed: int | str) -> Iterator[Case]:
 
 
 def totals_by_hand(package: Package) -> Iterator[Case]:
-    """Totals at the ends of numbers, the example of FORMAT, and texts that are none, as with names that no segment can have."""
+    """Totals at the ends of numbers, the example of FORMAT, and texts that are none, as with a name that no segment can
+    have."""
     ends = package.decode_totals(sums.ENDS + b"of,3,77\nof,4,18446744073709551615\nfold,4\nend,3\n")
     yield "totals at the ends of numbers", unlike(sums.ENDS + b"end,3\n", python_texts.totals_of(ends))
     yield "their report", unlike(sums.REPORT_OF_ENDS, python_texts.report_of(ends))
@@ -269,8 +270,8 @@ def recording_folders(package: Package, top: pathlib.Path, seed: int | str) -> I
 
 
 def refused_folders(package: Package, top: pathlib.Path) -> Iterator[Case]:
-    """Folders that cannot be read: damaged totals, no recording's, none at all; one with nothing in it; and the greatest number of a
-    segment, and one of a digit more."""
+    """Folders that cannot be read: damaged totals, no recording's, none at all; one with nothing in it; and the
+    greatest number of a segment, and one of a digit more."""
     path = folders.made(top / "a folder")
     yield "nothing in it", wrong_folder(package, path)
     folders.put(path, 1, mapped(CRASH.read_bytes()))

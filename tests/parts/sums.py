@@ -105,7 +105,8 @@ NO_TOTALS = [
 # Names that a segment can have, and some that none can.
 NAMES = (b"A", b"~" * 128, b"a!b", b"#;|\\'`")
 NO_NAMES = (
-    b"", b"!A", b'A"', b'"', b"A B", b"A\0", b"\0", b"\x1b[31mA", b"A\x7f", b"\t", b"A\r", b"\xff", b"\xf0\x9f\x98\x80", b"~" * 129,
+    b"", b"!A", b'A"', b'"', b"A B", b"A\0", b"\0", b"\x1b[31mA", b"A\x7f", b"\t", b"A\r", b"\xff", b"\xf0\x9f\x98\x80",
+    b"~" * 129,
 )
 
 

@@ -125,6 +125,11 @@ LEFT: list[tuple[str, str, str]] = [
         "persist_report/Unmet stepped/Failure",
         "UsageIsMistake",
     ),
+    (
+        "that a histogram has a name: one that a recorder knows, and one in totals",
+        "live_segment/RecorderState sum_texts/Lines",
+        "IsNamed",
+    ),
 ]
 
 # The head of a definition at the top of a file. A line `pub mod` names a file, and defines nothing.

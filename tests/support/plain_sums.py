@@ -138,7 +138,8 @@ def read_counts(lines: Lines) -> list[int]:
 
 def is_name(name: bytes) -> bool:
     """Whether a histogram in a segment can have this name."""
-    return 1 <= len(name) <= 128 and all(0x21 <= byte <= 0x7E and byte not in b',"' for byte in name) and name[0] != 0x21
+    are_lawful = all(0x21 <= byte <= 0x7E and byte not in b',"' for byte in name)
+    return 1 <= len(name) <= 128 and are_lawful and name[0] != 0x21
 
 
 def part_of(fields: Sequence[str]) -> tuple[tuple[bytes, Spec], Part]:

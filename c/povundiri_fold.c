@@ -260,8 +260,9 @@ static uint32_t fold_once(int folder, mode_t mode, uint64_t *folded, bool *again
 
 /* ---- A fold ---- */
 
-/* Whether this user may fold, in a folder that is a recording's, which is marked then. `mode` is that of the mark, for what is made. */
-static int enter(int folder, mode_t *mode) {
+/* Whether this user may fold, in a folder that is a recording's, which is marked then, with the id `known` if that is not 0. `mode` is that
+ * of the mark, for what is made. */
+static int enter(int folder, uint64_t known, mode_t *mode) {
     struct povundiri_listing listing;
     enum povundiri_mark mark;
     struct stat about;
@@ -271,7 +272,7 @@ static int enter(int folder, mode_t *mode) {
     fault = povundiri_parts_list(folder, &listing);
     free(listing.numbers);
     if (fault == 0 && !povundiri_parts_is_recordings(&listing)) fault = FAULT_NO_RECORDING;
-    if (fault == 0) fault = povundiri_mark_make(folder, 0600 | (about.st_mode & 0664), 0);
+    if (fault == 0) fault = povundiri_mark_make(folder, 0600 | (about.st_mode & 0664), known);
     if (fault == 0) fault = povundiri_mark_look(folder, &mark, mode);
     return fault == 0 && mark == NO_MARK ? ENOENT : fault;
 }
@@ -290,13 +291,13 @@ int povundiri_parts_lock_folds(struct povundiri_held *held, int folder, mode_t m
     return fault;
 }
 
-uint32_t povundiri_parts_fold(int folder, uint64_t *folded, int *fault) {
+uint32_t povundiri_parts_fold(int folder, uint64_t known, uint64_t *folded, int *fault) {
     struct povundiri_held held;
     uint64_t more = 0;
     uint32_t status = POVUNDIRI_SYSTEM;
     mode_t mode = 0;
     bool again = false;
-    *fault = enter(folder, &mode);
+    *fault = enter(folder, known, &mode);
     if (*fault == 0) *fault = povundiri_parts_lock_folds(&held, folder, mode);
     if (*fault == EBUSY) {
         *fault = 0;
@@ -325,7 +326,7 @@ uint32_t povundiri_folder_fold(const char *folder, uint64_t *folded, int *fault)
     pthread_setcancelstate(PTHREAD_CANCEL_DISABLE, &state);
     *fault = povundiri_parts_open_folder(&held, folder);
     if (*fault == 0) {
-        status = povundiri_parts_fold(held.descriptor, folded, fault);
+        status = povundiri_parts_fold(held.descriptor, 0, folded, fault);
         povundiri_parts_close(&held);
     }
     pthread_setcancelstate(state, NULL);

@@ -115,10 +115,11 @@ int povundiri_parts_sync(int descriptor);
 /* Opens the file whose lock a fold has, or makes it with this mode, and takes the lock. 0, EBUSY, or the system's fault. */
 int povundiri_parts_lock_folds(struct povundiri_held *held, int folder, mode_t mode);
 
-/* povundiri_folder_count, _sums and _fold of an open folder. */
+/* povundiri_folder_count, _sums and _fold of an open folder. A fold of one that has lost its mark marks it with the id `known`, if that is not
+ * 0. */
 int povundiri_parts_count(int folder, uint64_t *segments);
 uint32_t povundiri_parts_sums(int folder, struct povundiri_handle *sums, uint64_t *left, int *fault);
-uint32_t povundiri_parts_fold(int folder, uint64_t *folded, int *fault);
+uint32_t povundiri_parts_fold(int folder, uint64_t known, uint64_t *folded, int *fault);
 
 /* The file `totals`, for povundiri_parts_free. No file is a totals without text. */
 int povundiri_parts_totals(int folder, struct povundiri_totals_file *totals);

@@ -48,7 +48,17 @@ static void note_count(struct povundiri_recording *recording, uint64_t segments,
     pthread_mutex_unlock(&recording->mutex);
 }
 
-/* Folds, if there are `least` segments or more. */
+/* The id of the folder, as it was last seen; 0: it is not known. */
+static uint64_t id_of(struct povundiri_recording *recording) {
+    struct shard *const first = recording->shards;
+    uint64_t id;
+    pthread_mutex_lock(&first->mutex);
+    id = first->folder.id;
+    pthread_mutex_unlock(&first->mutex);
+    return id;
+}
+
+/* Folds, if there are `least` segments or more. The folder may lose its mark at any time. */
 static uint32_t fold(struct povundiri_recording *recording, uint64_t least, uint64_t *folded, int *fault) {
     const uint64_t last = last_of(recording);
     struct povundiri_held folder;
@@ -60,7 +70,8 @@ static uint32_t fold(struct povundiri_recording *recording, uint64_t least, uint
     *fault = povundiri_recording_folder(recording, &folder);
     if (*fault == 0) {
         if (least > 0) *fault = povundiri_parts_count(folder.descriptor, &segments);
-        if (*fault == 0) status = segments < least ? (uint32_t)POVUNDIRI_DONE : povundiri_parts_fold(folder.descriptor, folded, fault);
+        if (*fault == 0 && segments < least) status = POVUNDIRI_DONE;
+        if (*fault == 0 && segments >= least) status = povundiri_parts_fold(folder.descriptor, id_of(recording), folded, fault);
         povundiri_parts_close(&folder);
         if (segments > 0) note_count(recording, segments - (*folded < segments ? *folded : segments), last);
     }

@@ -10,6 +10,7 @@
 #include <cstdlib>
 #include <cstring>
 #include <filesystem>
+#include <fstream>
 #include <map>
 #include <mutex>
 #include <set>
@@ -32,6 +33,9 @@ constexpr povundiri_spec kOther = {POVUNDIRI_LINEAR, 1, 1000, 11}, kLarge = {POV
 
 // How often a folder was listed.
 std::atomic<int> listings{0};
+
+// A folder that loses its mark, once, just before a folder is listed.
+std::string unmarked;
 
 // Each name that a segment got and kept, in all folders, as often as one got it.
 std::mutex names_mutex;
@@ -61,7 +65,9 @@ int __wrap_openat(int in, const char* path, int flags, ...) {
     va_start(more, flags);
     const int mode = (flags & O_CREAT) != 0 || (flags & O_TMPFILE) == O_TMPFILE ? va_arg(more, int) : 0;
     va_end(more);
-    listings += std::strcmp(path, ".") == 0 && (flags & O_TMPFILE) != O_TMPFILE;
+    const bool lists = std::strcmp(path, ".") == 0 && (flags & O_TMPFILE) != O_TMPFILE;
+    listings += lists;
+    if (lists && !unmarked.empty()) HOLDS(std::remove((std::exchange(unmarked, "") + "/recording").c_str()) == 0);
     return __real_openat(in, path, flags, mode);
 }
 
@@ -330,6 +336,25 @@ void due() {
     HOLDS(units_in(full.report(), "b") == 80LL * kMost + 30);
 }
 
+// The id of a folder, by its mark (docs/FORMAT.md); 0: there is none.
+std::uint64_t id_in(const std::string& path) {
+    std::ifstream mark(path + "/recording", std::ios::binary);
+    std::uint64_t words[3] = {};
+    mark.read(reinterpret_cast<char*>(words), sizeof words);
+    return mark ? words[2] : 0;
+}
+
+// A folder that loses its mark as it is about to be folded is marked again with the id that the recording knows.
+void unmarked_amid() {
+    const std::string path = folder("unmarked");
+    Recording recording;
+    HOLDS(opens(path, recording, of(2)));
+    const Metric metric = metric_of(recording, "b");
+    for (int i = 0; i < 3; ++i) HOLDS(metric.add(1, kMost));
+    unmarked = path;
+    HOLDS(recording.fold() == 2 && unmarked.empty() && recording.began().id != 0 && id_in(path) == recording.began().id);
+}
+
 // What a segment of 8,192 bytes without another histogram returns to a name and a spec.
 Status alone(const std::string& name, povundiri_spec spec, const std::vector<std::uint32_t>& values) {
     povundiri::Segment segment(povundiri::shape_for(8'192, 1));
@@ -533,6 +558,7 @@ int run(bool only_threads) {
     if (only_threads) return failed;
     failed += group("children of fork", forks);
     failed += group("what is refused", refused_alike);
+    failed += group("a mark that is removed amid a fold", unmarked_amid);
     failed += group("many metrics", many_metrics);
     failed += group("after the end", after_the_end);
     failed += group("no memory for a metric", no_memory);

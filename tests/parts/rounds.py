@@ -30,6 +30,8 @@ SLEEPS = (35, 230)
 TIME = rb"\d{4}-\d\d-\d\dT\d\d:\d\d:\d\dZ\n"
 OVER = "no fault any more"
 NO_IMAGE = bytes(1000)
+# What is no kind of histograms.
+NO_KIND = 5
 # The rounds on a terminal.
 ROUNDS = 6
 # The words of a segment whose bytes are no part of memory that a program has already.
@@ -185,9 +187,9 @@ def after_the_text(program: pathlib.Path, folder: pathlib.Path, closed: pathlib.
         [empty, empty, shown, again], told("NoHistogram new", OVER), 0,
     )  # fmt: skip
     words = list(layout.words_of(closed.read_bytes()))
-    words[layout.QUEUE + layout.NEXT] = len(words)
-    broken = layout.data_of(words)
-    file.write_bytes(broken)
+    record = next(at for at in range(len(words)) if words[at + 1 : at + 3] == [layout.BLOCK_COOKIE, layout.HISTOGRAM])
+    words[record + layout.BLOCK_HEADER] = NO_KIND
+    file.write_bytes(layout.data_of(words))
     text = answer(program, ["export", file, "--live", "--whole"])
     assert text.status == 3 and text.output, str(text)
     yield "a damaged image", wrong_rounds(

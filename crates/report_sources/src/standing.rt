@@ -112,12 +112,20 @@ fn put_segment<R: Files + AllocGlobal>(
     Ok(())
 }
 
+// The names of a folder itself and of the one that it is in, as the system lists them.
+const ITSELF: &[u8] = b".";
+
+const ABOVE: &[u8] = b"..";
+
 /// Returns the names of what is in a folder, in any order.
 pub fn names_in<R: Files + AllocGlobal>(rt: &R, folder: &str) -> io::Result<Vec<Vec<u8>>> {
     let alloc = rt.alloc();
     let mut names = Vec::new(alloc);
     for name in BufReader::new(alloc, rt.open_dir(folder)?)?.split(alloc, 0) {
-        names.push(name?)?;
+        let name = name?;
+        if name.as_slice() != ITSELF && name.as_slice() != ABOVE {
+            names.push(name)?;
+        }
     }
     Ok(names)
 }

@@ -130,6 +130,31 @@ LEFT: list[tuple[str, str, str]] = [
         "live_segment/RecorderState sum_texts/Lines",
         "IsNamed",
     ),
+    (
+        "what a round says of itself, and a block that an actor has in hand",
+        "report_streams/Telling segment_invariant/Seen",
+        "HasOwn",
+    ),
+    (
+        "that a recorder did what a script says, and that a folder has what was recorded",
+        "persist_commands/Recording recording_folders/Belonging",
+        "HasRecorded",
+    ),
+    (
+        "that a sample has units, and that files of a kind may have some",
+        "live_segment/List/SampleRecords recording_folders/Belonging",
+        "HasUnits",
+    ),
+    (
+        "the mark of a recording's folder, and where that of a bucket is",
+        "recording_folders/Mark segment_machine/Note",
+        "IsMarkOf",
+    ),
+    (
+        "that a failure was said, and that the report of a follower has a histogram",
+        "report_streams/Failure segment_merge/Follow",
+        "IsReported",
+    ),
 ]
 
 # The head of a definition at the top of a file. A line `pub mod` names a file, and defines nothing.

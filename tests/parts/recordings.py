@@ -48,7 +48,8 @@ OF_CHILDREN = (
 # The programs that check something, and which calls to the system or to the heap each of them intercepts.
 CHECKED = {
     "recorded_times": (), "recorded_names": (), "recorded_families": ("malloc",), "recorded_options": (),
-    "recorded": ("clock_gettime", "posix_fallocate"), "recorded_folders": ("openat", "flock", "linkat", "renameat2", "pread"),
+    "recorded": ("clock_gettime", "posix_fallocate"),
+    "recorded_folders": ("openat", "flock", "linkat", "renameat2", "pread"),
     "recorded_mark": ("openat", "write", "fsync", "linkat", "renameat", "fchmodat", "unlinkat", "mmap"),
     "recorded_removed": (), "recorded_children": OF_CHILDREN, "recorded_refusals": OF_CHILDREN, "recorded_users": (),
     "recorded_room": ("posix_fallocate",), "recorded_values": ("posix_fallocate",),

@@ -413,9 +413,10 @@ def marks(program: pathlib.Path, top: pathlib.Path) -> Iterator[Case]:
         else:
             (path / MARK).write_bytes(content_of)
         yield f"recording is {name}", difference(report_wanted(path, is_mark), answer(program, ["report", path]))
-        before, came = Folder.at(path), answer(program, ["fold", path])
-        is_told = (came.status, came.error.startswith(f'persist_report: Read: "{path / MARK}": '.encode())) == (4, True)
-        yield f"recording is {name}, a fold", None if is_told != is_mark else str(came)
+        before, came = Folder.at(path), answer(program, ["fold", path, "--explain"])
+        is_told = came.status == 4 and came.error.startswith(f'persist_report: Read\n  "{path / MARK}": '.encode())
+        wrong = difference(Answer(), came) if is_mark else None if is_told else str(came)
+        yield f"recording is {name}, a fold", wrong
         if not is_mark:
             yield f"recording is {name}, what is there then", wrong_files(path, before)
     for number, (names, is_recording) in enumerate(BESIDE.items()):

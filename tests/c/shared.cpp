@@ -4,6 +4,7 @@
 #include <sys/wait.h>
 #include <unistd.h>
 
+#include <atomic>
 #include <cerrno>
 #include <map>
 #include <sstream>
@@ -305,18 +306,20 @@ std::uint64_t units_of(const std::map<std::string, std::pair<std::uint64_t, std:
     return found != totals.end() ? found->second.first : 0;
 }
 
-// Threads that go on in the next memories, each when it finds no room: what they counted is there. One that comes late may find room for
-// nothing.
+// Threads that go on in the next memories, each when it finds no room: what they counted is there. All have their histograms in the first
+// one before any of them counts. One that comes late to the next ones may find room for nothing.
 void threads() {
     constexpr int kThreads = 4, kValues = 60, kRounds = 200;
     const std::vector<SharedMemory> memories = made(povundiri::shape(1024, 256), 3);
     SharedSegment segment = opened(descriptors_of(memories));
     std::vector<std::uint64_t> counted(kThreads);
     std::vector<std::thread> running;
+    std::atomic<int> asked{0};
     for (int number = 0; number < kThreads; ++number) {
-        running.emplace_back([&segment, &counted, number] {
+        running.emplace_back([&segment, &counted, &asked, number] {
             SharedRecorder recorder = recorder_of(segment, 100);
             const SharedHist own = sparse_of(recorder, "own_" + std::to_string(number)), all = sparse_of(recorder, "all");
+            for (++asked; asked < kThreads;) std::this_thread::yield();
             for (int round = 0; round < kRounds; ++round) {
                 const int value = round % kValues;
                 counted[static_cast<std::size_t>(number)] += recorder.add(own, value, 3) + 1000 * recorder.add(all, value);

@@ -397,6 +397,10 @@ std::vector<Asked> asked_for() {
                                                {POVUNDIRI_SCALE, 1, 10'000'000, 5},
                                                {POVUNDIRI_SCALE, 1, 100'000'000, 9}};
     for (const povundiri_spec& spec : specs) asked.push_back({"s", spec, {}});
+    // Of some the histogram fits, and not its second bucket.
+    for (std::uint32_t buckets = 50; buckets <= 1000; buckets += 50) {
+        asked.push_back({"n" + std::to_string(buckets), {POVUNDIRI_LINEAR, 1, 1'000'000, buckets}, {}});
+    }
     const povundiri_spec custom = {POVUNDIRI_CUSTOM, 0, 0, 0};
     for (const std::vector<std::uint32_t>& values : {std::vector<std::uint32_t>{}, {0}, {5}, {1, 2, 3}, {3, 1, 2}, {1, 1}, {UINT32_MAX}}) {
         asked.push_back({"c", custom, values});

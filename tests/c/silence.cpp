@@ -411,8 +411,8 @@ void generations() {
     const long totals = bytes_of(path + "/totals");
     const std::uint64_t names = names_read, bytes = bytes_read;
     for (int i = 0; i < 20; ++i) HOLDS(latency.add(1, kMost));
+    HOLDS(names_read == names && bytes_read - bytes < 20 * 100'000);
     HOLDS(totals > 1'000'000 && segments_in(path) >= 520 && again.missed() == 0);
-    HOLDS(names_read - names <= segments_in(path) + 100 && bytes_read - bytes < 20 * 100'000);
 }
 
 int run() {

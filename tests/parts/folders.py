@@ -27,7 +27,7 @@ import time
 from collections.abc import Callable, Collection, Iterator, Sequence
 
 from parts import failing, recordings, summed_pages, sums
-from support import forge, native, plain_folders, plain_sums, tracer
+from support import forge, marks_of, native, plain_folders, plain_sums, tracer
 from support.plain_folders import LOCK, MARK, NEW_TOTALS, TOTALS, Folder, mapped, name_of, with_id
 from support.program import ROOT, Answer, Case, answer, content, difference, explained, fault, untried
 
@@ -326,60 +326,7 @@ def among_others(program: pathlib.Path, top: pathlib.Path) -> Iterator[Case]:
     yield "without its mark", difference(came, answer(program, ["report", first]))
 
 
-# What a file `recording` may be, and whether it is a mark: bytes; where a link leads to; or nothing, for a folder.
-MARKS: dict[str, tuple[bytes | str | None, bool]] = {
-    "no bytes": (b"", True),
-    "zeros": (bytes(4096), True),
-    "a mark": (plain_folders.mark(7), True),
-    "the greatest id": (plain_folders.mark(2**64 - 1), True),
-    "an id of 0": (plain_folders.mark(0), False),
-    "another cookie": (plain_folders.mark(7, cookie=0x6B72614C), False),
-    "form 2": (plain_folders.mark(7, form=2), False),
-    "a byte too few": (plain_folders.mark(7)[:-1], False),
-    "a byte too many": (plain_folders.mark(7) + b"\0", False),
-    "zeros, one too few": (bytes(4095), False),
-    "zeros, one too many": (bytes(4097), False),
-    "a word": (bytes(8), False),
-    "the last bit of 4,096": (bytes(4095) + b"\x80", False),
-    "a text": (b"we keep the images of all hosts here\n", False),
-    "an image": (CRASH.read_bytes(), False),
-    "a link that leads nowhere": ("nowhere", False),
-    "a link to a mark": ("../whole", False),
-    "a folder": (None, False),
-}
-# Names of further files in a folder of segments and totals without a mark, and whether all may be there.
-BESIDE: dict[tuple[str, ...], bool] = {
-    (): True,
-    ("totals.new", "fold.lock", "0000000009.damaged", "history", "history.new"): True,
-    ("history.lock", "history.damaged"): True,
-    ("spare-1-0123456789abcdef", "spare-999999999999999999-ffffffffffffffff", "recording-0000000000000000"): True,
-    ("notes.txt",): False,
-    (".hidden",): False,
-    ("spare-0-0123456789abcdef",): False,
-    ("spare-01-0123456789abcdef",): False,
-    ("spare--0123456789abcdef",): False,
-    ("spare-1-0123456789abcdeF",): False,
-    ("spare-1-0123456789abcde",): False,
-    ("spare-1-0123456789abcdef0",): False,
-    ("spare-1x0123456789abcdef",): False,
-    ("spare-1234567890123456789-0123456789abcdef",): False,
-    ("spare-",): False,
-    ("recording-",): False,
-    ("recording-0123456789abcdeg",): False,
-    ("recording-0123456789abcdef~",): False,
-    ("recording_0123456789abcdef",): False,
-    ("history.old",): False,
-    ("totals.old",): False,
-    ("0000000000.seg",): False,
-    ("5.seg",): False,
-    ("0000000005.SEG",): False,
-    ("0000000000.damaged",): False,
-    ("1000000000000000000.seg",): False,
-    ("fold.lock", "history", "a.img"): False,
-}
-
-
-def twice_there(path: pathlib.Path) -> None:
+def twice_there(path: pathlib.Path) -> pathlib.Path:
     """A folder in which two segments are also in the totals: they count once in a recording's folder, and twice among
     the images of another."""
     path.mkdir()
@@ -388,6 +335,7 @@ def twice_there(path: pathlib.Path) -> None:
     folded, _ = Folder.at(path).folded()
     assert folded.totals is not None
     (path / TOTALS).write_bytes(folded.totals)
+    return path
 
 
 def report_wanted(path: pathlib.Path, is_recording: bool) -> Answer:
@@ -403,15 +351,9 @@ def report_wanted(path: pathlib.Path, is_recording: bool) -> Answer:
 def marks(program: pathlib.Path, top: pathlib.Path) -> Iterator[Case]:
     """Which folders are a recording's: by what `recording` is, and, where that is missing, by the names in it."""
     (top / "whole").write_bytes(plain_folders.mark(7))
-    for number, (name, (content_of, is_mark)) in enumerate(MARKS.items()):
-        path = top / f"mark {number}"
-        twice_there(path)
-        if content_of is None:
-            (path / MARK).mkdir()
-        elif isinstance(content_of, str):
-            (path / MARK).symlink_to(content_of)
-        else:
-            (path / MARK).write_bytes(content_of)
+    for number, (name, (content_of, is_mark)) in enumerate(marks_of.MARKS.items()):
+        path = twice_there(top / f"mark {number}")
+        marks_of.put(path / MARK, content_of)
         yield f"recording is {name}", difference(report_wanted(path, is_mark), answer(program, ["report", path]))
         before, came = Folder.at(path), answer(program, ["fold", path, "--explain"])
         is_told = came.status == 4 and came.error.startswith(f'persist_report: Read\n  "{path / MARK}": '.encode())
@@ -419,11 +361,9 @@ def marks(program: pathlib.Path, top: pathlib.Path) -> Iterator[Case]:
         yield f"recording is {name}, a fold", wrong
         if not is_mark:
             yield f"recording is {name}, what is there then", wrong_files(path, before)
-    for number, (names, is_recording) in enumerate(BESIDE.items()):
-        path = top / f"beside {number}"
-        twice_there(path)
-        for name in names:
-            (path / name).write_bytes(b"")
+    for number, (names, is_recording) in enumerate(marks_of.BESIDE.items()):
+        path = twice_there(top / f"beside {number}")
+        marks_of.put_empty(path, names)
         wanted = report_wanted(path, is_recording)
         yield f"without a mark, {', '.join(names)}", difference(wanted, answer(program, ["report", path]))
     path = top / "spare alone"

@@ -27,7 +27,7 @@ from collections.abc import Callable, Iterator, Sequence
 from unittest import mock
 
 from parts import folders, known, looks, recordings, sums
-from support import bounds, forge, layout, native, plain_folders, plain_reader, plain_sums, python_texts
+from support import bounds, forge, layout, marks_of, native, plain_folders, plain_reader, plain_sums, python_texts
 from support.plain_folders import MARK, TOTALS, Folder, mapped, name_of, with_id
 from support.program import ROOT, Answer, Case, answer, difference
 from support.python_texts import PACKAGE, Package
@@ -301,21 +301,13 @@ def wrong_kind(package: Package, path: pathlib.Path, is_recording: bool) -> str 
 def marked_folders(package: Package, top: pathlib.Path) -> Iterator[Case]:
     """Which folders are a recording's: by what `recording` is, and, where that is missing, by the names in it."""
     (top / "whole").write_bytes(plain_folders.mark(7))
-    for number, (name, (content, is_mark)) in enumerate(folders.MARKS.items()):
-        path = top / f"mark {number}"
-        folders.twice_there(path)
-        if content is None:
-            (path / MARK).mkdir()
-        elif isinstance(content, str):
-            (path / MARK).symlink_to(content)
-        else:
-            (path / MARK).write_bytes(content)
+    for number, (name, (content, is_mark)) in enumerate(marks_of.MARKS.items()):
+        path = folders.twice_there(top / f"mark {number}")
+        marks_of.put(path / MARK, content)
         yield f"recording is {name}", wrong_kind(package, path, is_mark)
-    for number, (names, is_recording) in enumerate(folders.BESIDE.items()):
-        path = top / f"beside {number}"
-        folders.twice_there(path)
-        for name in names:
-            (path / name).write_bytes(b"")
+    for number, (names, is_recording) in enumerate(marks_of.BESIDE.items()):
+        path = folders.twice_there(top / f"beside {number}")
+        marks_of.put_empty(path, names)
         yield f"without a mark, {', '.join(names)}", wrong_kind(package, path, is_recording)
 
 
